@@ -1,0 +1,4 @@
+pub mod Cidrs
+pub mod StdGrammar
+pub mod StdText
+pub mod Vectors
