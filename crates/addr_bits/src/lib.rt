@@ -2,13 +2,13 @@
 #![tactic(auto)]
 
 mod address;
-mod bytes;
+mod items;
 mod prefix;
 mod read;
 mod width;
 
 pub use address::{Address, Family, NotAddress};
-pub use bytes::Bytes;
+pub use items::{Bytes, Items};
 pub use prefix::Prefix;
 pub use read::{read_ip4, read_ip6};
 pub use width::Width;

@@ -5,7 +5,7 @@ ghost use Rattle.prefix_trie.specs.Leaves.{ClonesEqual, Gains, FnReturnsAtBoth};
 ghost use Rattle.prefix_trie.specs.Tree.{Whole};
 ghost use Rattle.prefix_trie.specs.Node.{tree_of, tree_at, leaves_of, leaf_has, IsFork, IsSettled, IsSetAt, IsPut, Settles, IsLeastAt, IsForkOf, IsJoin, same_leaves};
 
-use crate::leaves::Leaves;
+use crate::Leaves;
 use addr_bits::{Prefix, Width};
 use std::alloc::{AllocError, Global};
 

@@ -3,7 +3,7 @@ ghost use Rattle.std.specs.Fn.{FnReturnsAt};
 ghost use Rattle.addr_bits.specs.Prefix.{Covers};
 ghost use Rattle.prefix_trie.specs.Leaves.{value_at, Alike, SameLeaves, IsTrie, ClonesEqual, ValueAnswers, CombinesAt, FnReturnsAtBoth};
 
-use crate::leaves::Leaves;
+use crate::Leaves;
 use crate::node::{Node, find, gather, join, least, put_root};
 use addr_bits::{Prefix, Width};
 use std::alloc::{AllocError, Global};
