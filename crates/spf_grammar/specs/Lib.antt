@@ -1,3 +1,4 @@
 pub mod FirstMatch
 pub mod Flat
 pub mod Lists
+pub mod Written

@@ -3,6 +3,8 @@
 
 mod flat;
 mod verdict;
+mod written;
 
 pub use flat::{FlatTerm, Net, first};
 pub use verdict::Verdict;
+pub use written::write_flat;

@@ -1,0 +1,8 @@
+//! Records of a redirect chain: what they spell, and which fit below the size.
+#![tactic(auto)]
+
+mod cut;
+mod fit;
+
+pub use cut::{Cut, Ends};
+pub use fit::fits;
