@@ -1,4 +1,5 @@
+pub mod Blocks
 pub mod Cidrs
 pub mod StdGrammar
 pub mod StdText
-pub mod Vectors
+pub mod Texts

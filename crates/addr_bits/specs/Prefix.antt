@@ -13,6 +13,10 @@ pub record IsCidr (bits : ℕ) (p : Cidr) : Type 0 where
   pub cut : cut_of bits p.start p.len ≡ p.start
   pub within : p.start < 2 ^ bits
 
+-- the prefix of this length in which the address lies
+abbrev pub cidr_of : (bits len a : ℕ) → Cidr
+cidr_of bits len a = record { start = cut_of bits a len; len = len }
+
 -- the first bits of the address, as many as the prefix is long, are the prefix's
 abbrev pub Covers : (bits : ℕ) → Cidr → ℕ → Type 0
 Covers bits p a = cut_of bits a p.len ≡ p.start
