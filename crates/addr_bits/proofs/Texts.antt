@@ -54,6 +54,7 @@ groups_fit n small (suc (suc (suc (suc (suc (suc (suc (suc k)))))))) = omega ari
 
 -- the written form of a number spells it
 pub spelled_written : (n : ℕ) → n < 2 ^ 128 → SpellsIp6 (ip6_text n) n
+unfolding ip6_text
 spelled_written n small = (
   small,
   from_colon_hex (ip6_text n) (groups_of n)

@@ -54,6 +54,7 @@ fn push_net(text: &mut ArrayString<48>, net: Net)
 
 /// The written form of a flat term: its qualifier, its network, and the length of its prefix in bits where that
 /// is not the longest (RFC 7208, section 5.6).
+#[tactic(auto, unfolding(crate::specs::Written::written_flat))]
 pub fn write_flat(term: &FlatTerm) -> ArrayString<48>
     ensures { result.bytes ≡ flat_text term.now }
 {

@@ -26,11 +26,11 @@ lacks_less domain label list ends whole from i zone new inside w lacks =
     let n : length ends ≡ i + 1 + length rest = omega (arith, length-drop (i + 1) ends) in
     let rise : RiseTo from (length list) (to ∷ rest) = subst (λ es. RiseTo from (length list) es) e lacks.rise in
     record {
-        rise = rise.2;
-        missing =
-            ap (λ z. z ++ record_lines domain label (i + 1) (pieces_from list to rest))
-            (w ∙ ap (λ b. zone ++ record_line (owner_text label i) (record_text domain label (piece list from to) i b)) (last_is list to i (length ends) rest n))
-            ∙ append_assoc zone _ _
-            ∙ sym (ap (λ es. zone ++ record_lines domain label i (pieces_from list from es)) e)
-            ∙ lacks.missing
+      rise = rise.2;
+      missing =
+          ap (λ z. z ++ record_lines domain label (i + 1) (pieces_from list to rest))
+          (w ∙ ap (λ b. zone ++ record_line (owner_text label i) (record_text domain label (piece list from to) i b)) (last_is list to i (length ends) rest n))
+          ∙ append_assoc zone _ _
+          ∙ sym (ap (λ es. zone ++ record_lines domain label i (pieces_from list from es)) e)
+          ∙ lacks.missing;
     }

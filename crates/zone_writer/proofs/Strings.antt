@@ -23,13 +23,15 @@ lacks_all zone text = (length text, omega arith, refl)
 pub lacks_less : (zone whole rest string behind new : List ℕ) → 255 < length rest → string ≡ take 255 rest → behind ≡ drop 255 rest → length behind + 255 ≡ length rest
     → new ≡ zone ++ quoted string → Lacks zone whole rest → Lacks new whole behind
 lacks_less zone whole rest string behind new long s b len w (zero, bound, e) = absurd (omega arith)
-lacks_less zone whole rest string behind new long s b len w (suc n, bound, e) =
-    (n, omega arith,
-    ap (λ z. z ++ flat_map quoted (strings_within n behind)) (w ∙ ap (λ t. zone ++ quoted t) s)
-    ∙ append_assoc zone (quoted (take 255 rest)) (flat_map quoted (strings_within n behind))
-    ∙ ap (λ t. zone ++ (quoted (take 255 rest) ++ flat_map quoted (strings_within n t))) b
-    ∙ sym (ap (λ strings. zone ++ flat_map quoted strings) (full_string n rest long))
-    ∙ e)
+lacks_less zone whole rest string behind new long s b len w (suc n, bound, e) = (
+  n,
+  omega arith,
+  ap (λ z. z ++ flat_map quoted (strings_within n behind)) (w ∙ ap (λ t. zone ++ quoted t) s)
+      ∙ append_assoc zone (quoted (take 255 rest)) (flat_map quoted (strings_within n behind))
+      ∙ ap (λ t. zone ++ (quoted (take 255 rest) ++ flat_map quoted (strings_within n t))) b
+      ∙ sym (ap (λ strings. zone ++ flat_map quoted strings) (full_string n rest long))
+      ∙ e,
+)
 
 -- the last string is written
 pub lacks_none : (zone whole rest new : List ℕ) → length rest ≤ 255 → new ≡ zone ++ quoted rest → Lacks zone whole rest → new ≡ whole

@@ -1,7 +1,6 @@
 //! The fragment: the zone file of a chain of flat records, with its table.
 #![tactic(auto)]
 
-
 mod record;
 mod zone;
 

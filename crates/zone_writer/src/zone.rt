@@ -40,7 +40,15 @@ fn push_records(
     let mut from = 0;
     for (index, end) in ends.iter().enumerate() {
         let last = index + 1 == ends.len();
-        push_record(alloc, zone, &list[from..*end], domain, label, index as u64, last)?;
+        push_record(
+            alloc,
+            zone,
+            &list[from..*end],
+            domain,
+            label,
+            index as u64,
+            last,
+        )?;
         from = *end;
     }
     Ok(())
