@@ -3,10 +3,14 @@
 
 mod answer;
 mod flat_list;
+mod laws;
 mod needs;
 mod row;
 
 pub use answer::Shortest;
 pub use flat_list::FlatList;
+pub use laws::{
+    chosen_is_shortest, mixed_is_exact, need_is_small, no_list_is_shorter, no_list_spends_less,
+};
 pub use needs::Needs;
 pub use row::{Row, Rows};
