@@ -6,6 +6,7 @@ mod flat_list;
 mod laws;
 mod needs;
 mod row;
+mod walk;
 
 pub use answer::Shortest;
 pub use flat_list::FlatList;
