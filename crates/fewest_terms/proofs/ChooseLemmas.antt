@@ -58,7 +58,7 @@ one_term-some w k n d c ne = cond-false (is_same d c) [] ((prefix_of w k n, d) �
 -- the sums of a mixed prefix, and where those of its halves begin
 pub record HalfSums (w : ℕ) (all : List (Cidr × Verdict)) (from len : ℕ) (h : Halves w all from len) (sums : List NeedRow) (row : ℕ) : Type 0 where
   pub within : row < length sums
-  pub head : (d : NeedRow) → number (get_or sums row d).needs ≡ need_of_halves (verdict_at w all) h.open_bits h.bits
+  pub head : (d : NeedRow) → get_or sums row d ≡ record { prefix = prefix_of w (suc h.open_bits) h.bits; needs = sums_of (verdict_at w all) h.open_bits h.bits }
   pub low : SumsBeginAt w all from (len + 1) sums (row + 1)
   pub after : (rest : List NeedRow) × (drop (row + 1 + length (sum_rows w (verdict_at w all) h.open_bits (2 * h.bits))) sums ≡ sum_rows w (verdict_at w all) h.open_bits (2 * h.bits + 1) ++ rest)
 
@@ -75,16 +75,17 @@ half_sums w all from len h sums row b =
     record {
       within = lt;
       head = λ d. (let whole : get_or sums row d ∷ drop (suc row) sums ≡ own ∷ (low ++ (high ++ b.0)) = sym (drop-cons sums row d lt) ∙ here in
-          let same : get_or sums row d ≡ own = cc in ap (λ r. number r.needs) same ∙ number-sums_of v h.open_bits h.bits);
+          let same : get_or sums row d ≡ own = cc in same);
       low = (high ++ b.0, next ∙ ap₂ (λ k n. sum_rows w v k n ++ (high ++ b.0)) (sym h.half_open) (sym h.low_bits));
       after = (b.0, sym (drop-drop (length low) (row + 1) sums) ∙ ap (drop (length low)) next ∙ drop_at low (high ++ b.0) (length low) refl);
     }
 
 -- the sums that the code reads
 pub head_at : (w : ℕ) (all : List (Cidr × Verdict)) (from len : ℕ) (h : Halves w all from len) (rows : List NeedRow) (row : ℕ) (d : NeedRow) → SumsBeginAt w all from len rows row
-    → d ≡ get_or rows row d → number d.needs ≡ need_of_halves (verdict_at w all) h.open_bits h.bits
+    → d ≡ get_or rows row d → (d.prefix ≡ prefix_of w (suc h.open_bits) h.bits) × (number d.needs ≡ need_of_halves (verdict_at w all) h.open_bits h.bits)
 head_at w all from len h rows row d b e =
-    ap (λ (r : NeedRow). number r.needs) e ∙ (half_sums w all from len h rows row b).head d
+    let s : d ≡ record { prefix = prefix_of w (suc h.open_bits) h.bits; needs = sums_of (verdict_at w all) h.open_bits h.bits } = e ∙ (half_sums w all from len h rows row b).head d in
+    (ap (λ (r : NeedRow). r.prefix) s, ap (λ (r : NeedRow). number r.needs) s ∙ number-sums_of (verdict_at w all) h.open_bits h.bits)
 
 pub high_sums : (w : ℕ) (all : List (Cidr × Verdict)) (from len : ℕ) (h : Halves w all from len) (sums : List NeedRow) (row mid next : ℕ) → HalfSums w all from len h sums row
     → mid ≡ from + length (leaves_at w all from (len + 1)) → next ≡ row + 1 + length (sums_at w all from (len + 1)) → SumsBeginAt w all mid (len + 1) sums next

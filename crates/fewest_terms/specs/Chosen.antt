@@ -14,8 +14,11 @@ use Rattle.fewest_terms.specs.Needs.{is_mixed, need_of_halves}
 use Rattle.fewest_terms.specs.Totals.{need_of_both, total, verdict_of_all}
 
 -- a term of one family is a prefix with a verdict: none where the addresses have the verdict already
+abbrev pub term_for : Cidr → (verdict had : Verdict) → List (Cidr × Verdict)
+term_for p d c = if is_same d c then [] else (p, d) ∷ []
+
 abbrev pub one_term : (w k n : ℕ) → (verdict had : Verdict) → List (Cidr × Verdict)
-one_term w k n d c = if is_same d c then [] else (prefix_of w k n, d) ∷ []
+one_term w k n d c = term_for (prefix_of w k n) d c
 
 -- the first verdict of the least number
 unfoldable pub best : (Verdict → ℕ) → Verdict

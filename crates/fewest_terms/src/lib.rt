@@ -2,6 +2,7 @@
 #![tactic(auto)]
 
 mod answer;
+mod choose;
 mod flat_list;
 mod laws;
 mod needs;
