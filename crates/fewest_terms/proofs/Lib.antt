@@ -5,6 +5,7 @@ pub mod LowerBound
 pub mod Mixed
 pub mod Places
 pub mod TableLemmas
+pub mod TrieLeaves
 pub mod VerdictLemmas
 pub mod WalkLemmas
 pub mod Whole

@@ -181,7 +181,7 @@ halves w all from len h b ne =
       | inr m ↦ absurd (ne ((f.plain m).0 ∙ omega arith))
     ]
 
-same_leaf : (a b : Cidr × Verdict) → a.0.start ≡ b.0.start → a.0.len ≡ b.0.len → a.1 ≡ b.1 → a ≡ b
+pub same_leaf : (a b : Cidr × Verdict) → a.0.start ≡ b.0.start → a.0.len ≡ b.0.len → a.1 ≡ b.1 → a ≡ b
 same_leaf a b p q r = λ i. (record { start = p i; len = q i }, r i)
 
 -- the leaf at the place is the prefix
