@@ -1,3 +1,4 @@
+pub mod Families
 pub mod FirstMatch
 pub mod Flat
 pub mod Lists

@@ -2,9 +2,11 @@
 #![tactic(auto)]
 
 mod flat;
+mod laws;
 mod verdict;
 mod written;
 
 pub use flat::{FlatTerm, Net, first};
+pub use laws::first_of_each_family;
 pub use verdict::Verdict;
 pub use written::write_flat;

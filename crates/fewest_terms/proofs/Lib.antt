@@ -1,0 +1,11 @@
+pub mod AnswerLemmas
+pub mod ChooseLemmas
+pub mod ChosenLemmas
+pub mod LowerBound
+pub mod Mixed
+pub mod Places
+pub mod TableLemmas
+pub mod TrieLeaves
+pub mod VerdictLemmas
+pub mod WalkLemmas
+pub mod Whole
