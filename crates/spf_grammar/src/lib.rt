@@ -3,6 +3,8 @@
 
 mod flat;
 mod laws;
+#[cfg(test)]
+mod tests;
 mod verdict;
 mod written;
 
