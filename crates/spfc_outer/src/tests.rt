@@ -17,6 +17,7 @@ fn host_files_are_read(rt: HostRuntime) -> Result<(), Fail> {
     if let Some(bytes) = loaded {
         assert_eq!(rt; bytes.as_slice(), b"twelve bytes".as_slice());
     }
+    fs::remove_file(&rt, "some")?;
     Ok(())
 }
 
@@ -39,9 +40,7 @@ fn host_sinks_take_bytes(rt: HostRuntime) {
 
 fn bytes(alloc: Global, text: &[u8]) -> Result<Bytes, AllocError> {
     let mut bytes = Bytes::new(alloc);
-    for byte in text {
-        bytes.push(*byte)?;
-    }
+    bytes.extend_from_slice(text)?;
     Ok(bytes)
 }
 
