@@ -1,0 +1,153 @@
+//! Thin adapters over the host: its files, and its standard output and standard error. They tell nothing of content.
+use crate::{Failed, Files, OpenFault, Opened, Sink};
+use std::fs::File;
+use std::io::{ErrorKind, Read};
+use std::rt::{Stderr, Stdout};
+
+/// The files of the host, by their paths. A name that is not UTF-8 is a counted failure.
+#[derive(Drop)]
+pub struct HostFiles {
+    rt: HostRuntime,
+    file: Option<File>,
+    faults: u64,
+}
+
+impl HostFiles {
+    ghost use Rattle.std.specs.Prelude.{◌≡◌, false};
+    ghost use Rattle.spfc_outer.specs.Host.{host_files_faults, host_has_chosen};
+
+    /// The host's files, of which none is chosen.
+    pub fn new(rt: HostRuntime) -> HostFiles
+        ensures faults { host_files_faults result ≡ 0 }
+        ensures chosen { host_has_chosen result ≡ false }
+    {
+        HostFiles {
+            rt,
+            file: None,
+            faults: 0,
+        }
+    }
+}
+
+impl Files for HostFiles {
+    ghost use Rattle.std.specs.Prelude.{[], false, None};
+    ghost use Rattle.spfc_outer.specs.Host.{host_files_faults, host_has_chosen};
+
+    ghost told = { λ _. false };
+
+    ghost held = { λ _ _. None };
+
+    ghost is_chosen = { host_has_chosen };
+
+    ghost chosen_name = { λ _. [] };
+
+    ghost rest = { λ _. [] };
+
+    ghost last_fault = { λ _. None };
+
+    ghost faults = { host_files_faults };
+
+    ghost is_assured = { λ _. false };
+
+    fn open_file(&mut self, name: &[u8]) -> Result<Opened, OpenFault> {
+        let Ok(path) = str::from_utf8(name) else {
+            self.file = None;
+            self.faults = self.faults.saturating_add(1);
+            return Err(OpenFault::Failed);
+        };
+        match File::open(&self.rt, path) {
+            Ok(file) => {
+                self.file = Some(file);
+                Ok(Opened::Chosen)
+            }
+            Err(error) => match error.kind() {
+                ErrorKind::NotFound => {
+                    self.file = None;
+                    Ok(Opened::Missing)
+                }
+                ErrorKind::OutOfMemory => Err(OpenFault::Memory),
+                _ => {
+                    self.file = None;
+                    self.faults = self.faults.saturating_add(1);
+                    Err(OpenFault::Failed)
+                }
+            },
+        }
+    }
+
+    fn read(&mut self, buf: &mut [u8]) -> Result<usize, Failed> {
+        match &mut self.file {
+            Some(file) => match file.read(buf) {
+                Ok(count) => Ok(count),
+                Err(_) => {
+                    self.faults = self.faults.saturating_add(1);
+                    Err(Failed)
+                }
+            },
+            None => unreachable!(),
+        }
+    }
+}
+
+#[derive(Drop)]
+enum Stream {
+    Out(Stdout),
+    Err(Stderr),
+}
+
+/// The standard output or the standard error of the host.
+#[derive(Drop)]
+pub struct HostSink {
+    stream: Stream,
+    faults: u64,
+}
+
+impl HostSink {
+    ghost use Rattle.std.specs.Prelude.{◌≡◌};
+    ghost use Rattle.spfc_outer.specs.Host.{host_sink_faults};
+
+    /// The standard output.
+    pub fn output(rt: HostRuntime) -> HostSink
+        ensures { host_sink_faults result ≡ 0 }
+    {
+        HostSink {
+            stream: Stream::Out(rt.stdout()),
+            faults: 0,
+        }
+    }
+
+    /// The standard error.
+    pub fn error(rt: HostRuntime) -> HostSink
+        ensures { host_sink_faults result ≡ 0 }
+    {
+        HostSink {
+            stream: Stream::Err(rt.stderr()),
+            faults: 0,
+        }
+    }
+}
+
+impl Sink for HostSink {
+    ghost use Rattle.std.specs.Prelude.{None};
+    ghost use Rattle.spfc_outer.specs.Host.{host_sink_faults};
+
+    ghost bytes = { λ _. None };
+
+    ghost faults = { host_sink_faults };
+
+    ghost assured = { λ _. 0 };
+
+    fn write(&mut self, piece: &[u8]) -> Result<usize, Failed> {
+        let written = match &self.stream {
+            Stream::Out(out) => out.write_some(piece),
+            Stream::Err(err) => err.write_some(piece),
+        };
+        match written {
+            Ok(count) if count > 0 || piece.is_empty() => Ok(count),
+            _ => {
+                self.faults = self.faults.saturating_add(1);
+                Err(Failed)
+            }
+        }
+    }
+}
