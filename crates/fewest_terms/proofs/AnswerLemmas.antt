@@ -1,5 +1,5 @@
 -- The whole answer from its parts.
-use Rattle.std.proofs.Common.{ℕ, ◌≡◌, ◌+◌, ◌≤◌, List, [], ◌++◌, map, length, sym, ◌∙◌, ap, ap₂, subst, arith, append_assoc, map-id}
+use Rattle.std.proofs.Common.{ℕ, ◌≡◌, ◌+◌, ◌^◌, ◌<◌, ◌≤◌, List, [], ◌++◌, map, length, sym, ◌∙◌, ap, ap₂, subst, arith, append_assoc, map-id}
 use mathlib.Core.Path.{fun_ext}
 use Rattle.spf_grammar.specs.declared.verdict.Verdict.{Verdict}
 use Rattle.addr_bits.specs.declared.address.Family.TheVariants.{V4, V6}
@@ -7,7 +7,10 @@ use Rattle.spf_grammar.specs.declared.flat.FlatTerm.{FlatTerm}
 use Rattle.fewest_terms.specs.declared.needs.Needs.{Needs}
 use Rattle.addr_bits.specs.Prefix.{Cidr}
 use Rattle.fewest_terms.specs.Row.{NeedRow}
-use Rattle.spf_grammar.specs.Lists.{IsSame}
+use Rattle.spf_grammar.specs.Lists.{IsSame, bits}
+use Rattle.spf_grammar.specs.Families.{HavePrefixes, address_of}
+use Rattle.spf_grammar.specs.Flat.{first}
+use Rattle.spf_grammar.proofs.FirstLemmas.{first-seen}
 use Rattle.fewest_terms.specs.Needs.{need}
 use Rattle.fewest_terms.specs.Tables.{number, need_rows}
 use Rattle.fewest_terms.specs.Totals.{need_of_both, least_with_all, total, verdict_of_all}
@@ -15,6 +18,7 @@ use Rattle.fewest_terms.specs.Chosen.{chosen, flat, all_term, chosen_list}
 use Rattle.fewest_terms.specs.Leaves.{ruled_row, sum_rows}
 use Rattle.fewest_terms.proofs.Whole.{total-le}
 use Rattle.fewest_terms.proofs.ChosenLemmas.{chosen_list-same, length-chosen_list}
+use Rattle.fewest_terms.proofs.PrefixLemmas.{HavePrefixes-chosen_list}
 use Rattle.fewest_terms.proofs.WalkLemmas.{ruled-sum_rows}
 
 pub both-is : (v4 v6 : ℕ → Verdict) (both four six : Needs) → ((c : Verdict) → number both c ≡ number four c + number six c)
@@ -44,3 +48,16 @@ list-same v4 v6 list e = subst (IsSame v4 v6) (sym e) (chosen_list-same v4 v6)
 
 pub list-shortest : (v4 v6 : ℕ → Verdict) (list other : List FlatTerm) → list ≡ chosen_list v4 v6 → IsSame v4 v6 other → length list ≤ length other
 list-shortest v4 v6 list other e same = omega (arith, ap length e, length-chosen_list v4 v6, total-le v4 v6 other same)
+
+pub list-counted : (v4 v6 : ℕ → Verdict) (list : List FlatTerm) (sum : ℕ) → list ≡ chosen_list v4 v6 → sum ≡ total v4 v6 → sum ≡ length list
+list-counted v4 v6 list sum e t = t ∙ sym (length-chosen_list v4 v6) ∙ ap length (sym e)
+
+pub list-prefixes : (v4 v6 : ℕ → Verdict) (list : List FlatTerm) → list ≡ chosen_list v4 v6 → HavePrefixes list
+list-prefixes v4 v6 list e = subst HavePrefixes (sym e) (HavePrefixes-chosen_list v4 v6)
+
+-- what each family sees decides for its addresses
+pub list-gives4 : (v4 v6 : ℕ → Verdict) (list : List FlatTerm) → list ≡ chosen_list v4 v6 → (a : ℕ) → a < 2 ^ bits V4 → first list (address_of V4 a) ≡ v4 a
+list-gives4 v4 v6 list e a h = first-seen V4 list a (list-prefixes v4 v6 list e) ∙ (list-same v4 v6 list e).four a h
+
+pub list-gives6 : (v4 v6 : ℕ → Verdict) (list : List FlatTerm) → list ≡ chosen_list v4 v6 → (a : ℕ) → a < 2 ^ bits V6 → first list (address_of V6 a) ≡ v6 a
+list-gives6 v4 v6 list e a h = first-seen V6 list a (list-prefixes v4 v6 list e) ∙ (list-same v4 v6 list e).six a h

@@ -4,6 +4,7 @@ pub mod ChosenLemmas
 pub mod LowerBound
 pub mod Mixed
 pub mod Places
+pub mod PrefixLemmas
 pub mod TableLemmas
 pub mod TrieLeaves
 pub mod VerdictLemmas

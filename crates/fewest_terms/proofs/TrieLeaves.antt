@@ -21,7 +21,7 @@ use Rattle.fewest_terms.proofs.WalkLemmas.{leaves_of-mixed, leaves_of-plain, sam
 pub lowest-next : (k n : ℕ) → lowest k n + 2 ^ k ≡ lowest k (n + 1)
 lowest-next k n = grind arith
 
-lowest-both : (k n : ℕ) → lowest k (2 * n + 1 + 1) ≡ lowest (suc k) (n + 1)
+pub lowest-both : (k n : ℕ) → lowest k (2 * n + 1 + 1) ≡ lowest (suc k) (n + 1)
 lowest-both k n = grind (arith, pow-suc)
 
 lowest-upper : (k n : ℕ) → lowest (suc k) n + 2 ^ k ≡ lowest k (2 * n + 1)

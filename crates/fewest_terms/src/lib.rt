@@ -3,16 +3,19 @@
 
 mod answer;
 mod choose;
-mod flat_list;
 mod laws;
 mod needs;
 mod row;
 mod walk;
 
-pub use answer::Shortest;
-pub use flat_list::FlatList;
+use addr_bits::Items;
+pub use answer::{Shortest, fewest};
 pub use laws::{
     chosen_is_shortest, mixed_is_exact, need_is_small, no_list_is_shorter, no_list_spends_less,
 };
 pub use needs::Needs;
 pub use row::{Row, Rows};
+use spf_grammar::FlatTerm;
+
+/// A list of flat terms, of which the first that has an address decides.
+pub type FlatList = Items<FlatTerm>;

@@ -1,9 +1,9 @@
 //! Rows of needs, and lists of them.
-ghost use Rattle.std.specs.Prelude.{◌≡◌, [], ◌∷◌, ◌++◌, length, OnOk, OnErr, slice_get, option_copied, ⊤};
+ghost use Rattle.std.specs.Prelude.{◌≡◌, ⊤};
 
 use crate::Needs;
-use addr_bits::{Prefix, Width};
-use std::alloc::{AllocError, Global};
+use addr_bits::{Items, Prefix, Width};
+use std::alloc::AllocError;
 use std::marker::Model;
 
 /// A mixed prefix, and how many terms it needs.
@@ -38,57 +38,4 @@ impl<W: Width> Clone for Row<W> {
 }
 
 /// A list of rows.
-#[derive(Drop)]
-pub struct Rows<W: Width> {
-    items: Vec<Row<W>>,
-}
-
-impl<W: Width> Model for Rows<W> {
-    ghost use Rattle.std.specs.Prelude.{List};
-    ghost use Rattle.fewest_terms.specs.Row.{NeedRow};
-
-    ghost Value = { List NeedRow };
-
-    ghost view = { λ l. l.items.items };
-}
-
-impl<W: Width> Rows<W> {
-    /// The empty list. It takes no memory.
-    pub fn new(alloc: Global) -> Rows<W>
-        ensures { result ≡ [] }
-    {
-        Rows {
-            items: Vec::new(alloc),
-        }
-    }
-
-    /// Appends the item. Where there is no memory, the list stays.
-    pub fn push(&mut self, item: Row<W>) -> Result<(), AllocError>
-        ensures ok { OnOk result (self.new ≡ self.old ++ item ∷ []) }
-        ensures err { OnErr result (self.new ≡ self.old) }
-    {
-        self.items.push(item)?;
-        Ok(())
-    }
-
-    /// The number of items.
-    pub fn len(&self) -> usize
-        ensures { result ≡ length self.now }
-    {
-        self.items.len()
-    }
-
-    /// The item at `i`, if there is one.
-    pub fn get(&self, i: usize) -> Option<&Row<W>>
-        ensures { option_copied result ≡ slice_get self.now i }
-    {
-        self.items.get(i)
-    }
-
-    /// The items, in order.
-    pub fn as_slice(&self) -> &[Row<W>]
-        ensures { result.now ≡ self.now }
-    {
-        self.items.as_slice()
-    }
-}
+pub type Rows<W> = Items<Row<W>>;
