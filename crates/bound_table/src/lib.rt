@@ -1,6 +1,10 @@
 //! The printed table of needs, which shows that no shorter list exists.
 #![tactic(auto)]
 
+mod check;
+mod laws;
 mod lines;
 
+pub use check::check_row;
+pub use laws::table_bounds;
 pub use lines::{append_table, write_table};
