@@ -3,6 +3,8 @@
 
 mod cut;
 mod fit;
+#[cfg(test)]
+mod tests;
 
 pub use cut::{Cut, Ends};
 pub use fit::fits;

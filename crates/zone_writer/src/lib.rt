@@ -2,6 +2,8 @@
 #![tactic(auto)]
 
 mod record;
+#[cfg(test)]
+mod tests;
 mod zone;
 
 pub use zone::fragment;
