@@ -35,7 +35,11 @@ fn a_prefix_in_a_prefix(rt: HostRuntime) -> Result<(), Fail> {
 fn families_of_one_verdict(rt: HostRuntime) -> Result<(), Fail> {
     // What each family has, and the list: one family needs no `all`, and neutral needs no term.
     let rows = [
-        (Verdict::Fail, Verdict::Pass, &["-ip4:0.0.0.0/0", "ip6:::/0"][..]),
+        (
+            Verdict::Fail,
+            Verdict::Pass,
+            &["-ip4:0.0.0.0/0", "ip6:::/0"][..],
+        ),
         (Verdict::Neutral, Verdict::Neutral, &[][..]),
         (Verdict::Pass, Verdict::Pass, &["all"][..]),
         (Verdict::SoftFail, Verdict::Neutral, &["~ip4:0.0.0.0/0"][..]),
