@@ -1,5 +1,5 @@
 -- The whole answer from its parts.
-use Rattle.std.proofs.Common.{ℕ, ◌≡◌, ◌+◌, ◌^◌, ◌<◌, ◌≤◌, List, [], ◌++◌, map, length, sym, ◌∙◌, ap, ap₂, subst, arith, append_assoc, map-id}
+use Rattle.std.proofs.Common.{ℕ, ◌≡◌, ◌+◌, ◌^◌, ◌<◌, ◌≤◌, List, [], ◌++◌, map, length, sym, ◌∙◌, ap, ap₂, subst, arith, append_assoc}
 use mathlib.Core.Path.{fun_ext}
 use Rattle.spf_grammar.specs.declared.verdict.Verdict.{Verdict}
 use Rattle.addr_bits.specs.declared.address.Family.TheVariants.{V4, V6}

@@ -1,7 +1,7 @@
 -- What a walk that writes the chosen terms finds.
 use Rattle.std.proofs.Common.{ℕ, zero, suc, ◌≡◌, ◌≢◌, ◌+◌, ◌*◌, ◌<◌, ◌≤◌, nat_le, true, false, List, [], ◌∷◌, ◌++◌, length, drop, get_or, refl, sym, ◌∙◌, ap, ap₂, arith, le-leb, length-append, length-drop, append_assoc, append-nil, drop-cons, mul-one}
 use Rattle.std.proofs.lemmas.Bool.{cond-true, cond-false, both_ways, lt-leb, false_from_ne_true}
-use Rattle.std.proofs.lemmas.List.{drop-drop, drop_at, length-map, get_or-map}
+use Rattle.std.proofs.lemmas.List.{drop-drop, drop_at}
 use Rattle.spf_grammar.specs.declared.verdict.Verdict.{Verdict}
 use Rattle.addr_bits.specs.Prefix.{Cidr}
 use Rattle.fewest_terms.specs.Row.{NeedRow}

@@ -1,5 +1,5 @@
 -- The prefixes of the chosen list are prefixes of addresses.
-use Rattle.std.proofs.Common.{ℕ, zero, suc, ◌≡◌, ◌+◌, ◌*◌, ◌^◌, ◌≤◌, Bool, true, false, cond, List, [], ◌∷◌, ◌++◌, map, refl, sym, ◌∙◌, subst, arith}
+use Rattle.std.proofs.Common.{ℕ, zero, suc, ◌≡◌, ◌+◌, ◌*◌, ◌^◌, ◌≤◌, Bool, true, false, cond, List, [], ◌∷◌, ◌++◌, map, refl, sym, subst, arith}
 use Rattle.addr_bits.specs.Prefix.{Cidr, IsCidr}
 use Rattle.addr_bits.specs.Blocks.{lowest, prefix_of}
 use Rattle.addr_bits.specs.declared.address.Family.{Family}

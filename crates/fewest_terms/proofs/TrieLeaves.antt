@@ -1,14 +1,14 @@
 -- The leaves of a trie are those of its verdicts: each prefix whose addresses have one verdict lies in one leaf.
 use Rattle.std.specs.Prelude.{Contains}
-use Rattle.std.proofs.Common.{ℕ, zero, suc, ◌≡◌, ◌+◌, ◌-◌, ◌*◌, ◌/◌, ◌^◌, ◌<◌, ◌≤◌, Bool, true, false, List, [], ◌∷◌, ◌++◌, inl, inr, refl, sym, ◌∙◌, ap, ap₂, subst, arith, append_assoc, append-nil, pow_pos, pow-suc}
+use Rattle.std.proofs.Common.{ℕ, zero, suc, ◌≡◌, ◌+◌, ◌-◌, ◌*◌, ◌/◌, ◌^◌, ◌≤◌, Bool, true, false, List, [], ◌∷◌, ◌++◌, inl, inr, refl, sym, ◌∙◌, ap, subst, arith, append_assoc, append-nil, pow_pos, pow-suc}
 use Rattle.std.proofs.lemmas.Bool.{cases_Bool, false≢true}
 use Rattle.std.proofs.lemmas.Bool.Decides.{leb_tells}
 use Rattle.std.proofs.lemmas.Nat.{pow-add}
 use Rattle.std.proofs.lemmas.List.Elements.{Contains-push, Contains-append_left, Contains-append_right}
 use Rattle.addr_bits.specs.Width.{cut_of}
-use Rattle.addr_bits.specs.Prefix.{Cidr, IsCidr, Covers, lower_half, upper_half}
+use Rattle.addr_bits.specs.Prefix.{Cidr, IsCidr, lower_half, upper_half}
 use Rattle.addr_bits.specs.Blocks.{lowest, prefix_of}
-use Rattle.prefix_trie.specs.Leaves.{value_at, CoverInOrder, IsTrie, SameLeaves}
+use Rattle.prefix_trie.specs.Leaves.{CoverInOrder, IsTrie, SameLeaves}
 use Rattle.prefix_trie.proofs.Coarse.{value_at-leaf}
 use Rattle.spf_grammar.specs.declared.verdict.Verdict.{Verdict}
 use Rattle.fewest_terms.specs.Needs.{is_mixed}

@@ -1,7 +1,7 @@
 -- What a walk over the leaves of a trie finds.
 use Rattle.std.proofs.Common.{ℕ, zero, suc, ◌≡◌, ◌≢◌, ◌+◌, ◌-◌, ◌*◌, ◌/◌, ◌^◌, ◌<◌, ◌≤◌, true, false, List, [], ◌∷◌, ◌++◌, map, length, drop, get_or, set, inl, inr, refl, sym, ◌∙◌, ap, ap₂, subst, arith, le_refl, length-append, length-drop, append_assoc, append-nil, drop-cons}
 use Rattle.std.proofs.lemmas.Bool.{cond-true, cond-false, cases_Bool, both_ways}
-use Rattle.std.proofs.lemmas.List.{drop-drop, set_at, map-append, drop_at, length-map, get_or-map}
+use Rattle.std.proofs.lemmas.List.{drop-drop, set_at, map-append, drop_at}
 use mathlib.Core.Path.{fun_ext}
 use Rattle.spf_grammar.specs.declared.verdict.Verdict.{Verdict}
 use Rattle.spf_grammar.specs.declared.verdict.Verdict.TheVariants.{Fail, SoftFail, Pass, Neutral}

@@ -1,4 +1,4 @@
-use Rattle.std.proofs.Common.{rules, ◌≡◌, ◌-◌, ◌++◌, length, arith, sym, ◌∙◌, ap, ap₂}
+use Rattle.std.proofs.Common.{rules, ◌-◌, ◌++◌, length, arith, sym, ◌∙◌, ap}
 use Rattle.fewest_terms.specs.Chosen.{term_for}
 use Rattle.fewest_terms.specs.Row.{NeedRow}
 use Rattle.fewest_terms.specs.Tables.{number}

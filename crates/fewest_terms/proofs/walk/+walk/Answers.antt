@@ -1,7 +1,6 @@
-use Rattle.std.proofs.Common.{rules, ℕ, ◌≡◌, ◌-◌, ◌++◌, ◌∷◌, [], List, length, arith, sym, ◌∙◌, ap, append-nil, suc, ◌*◌, subst, length-append}
+use Rattle.std.proofs.Common.{rules, ◌≡◌, ◌-◌, ◌++◌, List, length, arith, sym, ◌∙◌, ap, append-nil, suc, ◌*◌, subst, length-append}
 use Rattle.fewest_terms.specs.Row.{NeedRow}
 use Rattle.fewest_terms.specs.Verdicts.{cost}
-use Rattle.fewest_terms.specs.Tables.{number}
 use Rattle.addr_bits.specs.Blocks.{prefix_of}
 use Rattle.fewest_terms.specs.Leaves.{verdict_at, bits_at}
 use Rattle.fewest_terms.proofs.Mixed.{need-plain}
