@@ -1,11 +1,10 @@
 -- Names, their children, and what stands under them.
-use Rattle.std.proofs.Common.{◌≡◌, ◌≢◌, ℕ, ◌+◌, ◌-◌, ◌<◌, ◌≤◌, Bool, true, false, cond, Ok, Err, List, [], ◌∷◌, ◌++◌, length, take, drop, map, bytes_eq, Decides, Option, Some, None, Result, refl, sym, ap, ap₂, subst, ◌∙◌, arith, length-append, take-append-drop, drop_at, append_assoc, IsTrue, true≢false, nat_lt, ltb, eqb, lt-ltb, le-ltb, ltb-true, ◌==◌, not, ◌↔◌}
+use Rattle.std.proofs.Common.{◌≡◌, ◌≢◌, ℕ, ◌+◌, ◌-◌, ◌<◌, ◌≤◌, Bool, true, false, cond, Ok, Err, List, [], ◌∷◌, ◌++◌, length, take, drop, map, bytes_eq, Decides, Option, Some, None, Result, refl, sym, ap, ap₂, ◌∙◌, arith, length-append, take-append-drop, drop_at, IsTrue, true≢false, nat_lt, lt-ltb, le-ltb, ltb-true, ◌==◌, not, ◌↔◌}
 use Rattle.std.proofs.lemmas.List.{length-map}
 use Rattle.std.proofs.lemmas.Bool.{eqb-false, ltb-false, ne_eqb}
 use Rattle.std.proofs.lemmas.Bool.Decides.{same_from_decides}
 use Rattle.std.specs.Cmp.Lexicographic.{pointwise, pointwise_decides, bytes_decides}
 use Rattle.std.specs.List.{AllByRecursion}
-use Rattle.std.specs.Char.{to_ascii_lowercase}
 use Rattle.dns_name.specs.declared.fault.NameFault.{NameFault}
 use Rattle.dns_name.specs.declared.fault.NameFault.TheVariants.{EmptyLabel, LabelLong, NameLong}
 use Rattle.dns_name.specs.Wire.{wire_form, labels_in}

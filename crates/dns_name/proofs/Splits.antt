@@ -1,5 +1,5 @@
 -- The parts that `rsplit` gives: those of `split`, the last one first.
-use Rattle.std.proofs.Common.{◌≡◌, ℕ, zero, suc, ◌+◌, ◌-◌, ◌<◌, ◌≤◌, Bool, true, false, cond, List, [], ◌∷◌, ◌++◌, length, get_or, refl, sym, ap, subst, ◌∙◌, arith, Option, Some, None, Bor, MatchOption, MatchBool, reverse, ap₂, length-append, map, drop, take-append-drop, append_assoc}
+use Rattle.std.proofs.Common.{◌≡◌, ℕ, suc, ◌+◌, ◌-◌, ◌<◌, Bool, true, false, cond, List, [], ◌∷◌, ◌++◌, length, get_or, refl, sym, ap, subst, ◌∙◌, arith, Option, Some, None, Bor, MatchOption, MatchBool, reverse, ap₂, length-append, map, drop, take-append-drop, append_assoc}
 use Rattle.std.proofs.lemmas.List.{reverse-append, reverse-reverse, get_or-append-add}
 use Rattle.std.proofs.lemmas.List.Splits.{slice_split-cons_yes, slice_split-cons_no, slice_split_none, length-slice_split}
 use Rattle.std.proofs.lemmas.Iterator.{YieldsList}
@@ -8,7 +8,6 @@ use Rattle.std.proofs.lemmas.Iterator.Consumers.{YieldsList-so_far, YieldsList-t
 use Rattle.std.proofs.Math.Seq.{drop-cons}
 use Rattle.std.specs.Iterator.{Yields}
 use Rattle.std.proofs.lemmas.Fn.{always_returns_same}
-use Rattle.std.proofs.lemmas.Grind.{common_steps}
 use Rattle.std.specs.Fn.{ComputesKey, CalledAt}
 use Rattle.std.specs.List.{All, slice_split, onto_first, IsAfterLastMatch}
 use Rattle.std.specs.Slice.Iter.{split_rest, split_done, split_callee, split_steps, rsplit_parts}

@@ -1,9 +1,9 @@
 -- Labels, and the octets that hold them.
-use Rattle.std.proofs.Common.{◌≡◌, ℕ, zero, suc, ◌+◌, ◌<◌, ◌≤◌, List, [], ◌∷◌, ◌++◌, length, take, drop, map, refl, sym, ap, ap₂, subst, ◌∙◌, arith, length-append}
+use Rattle.std.proofs.Common.{◌≡◌, ℕ, zero, suc, ◌<◌, ◌≤◌, List, [], ◌∷◌, ◌++◌, length, take, drop, refl, sym, ap, ap₂, subst, ◌∙◌, arith, length-append}
 use Rattle.std.proofs.Math.Seq.{take-append_seam, drop-append_seam}
 use Rattle.std.specs.List.{AllByRecursion}
 use Rattle.dns_name.specs.Wire.{wire_form, label_and_rest, labels_in}
-use Rattle.dns_name.specs.Name.{IsLabel, IsName, IsWire, lowercase_label}
+use Rattle.dns_name.specs.Name.{IsLabel, IsWire}
 
 -- a label and what follows it
 label_taken : (label rest : List ℕ) → label_and_rest (length label) (label ++ rest) ≡ (label, labels_in rest)

@@ -9,3 +9,6 @@ mod printed;
 
 pub use fault::NameFault;
 pub use name::Name;
+
+#[cfg(test)]
+mod tests;

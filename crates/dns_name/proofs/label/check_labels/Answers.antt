@@ -1,9 +1,8 @@
-use Rattle.std.proofs.Common.{◌≡◌, ◌∷◌, ◌++◌, [], Some, None, List, ℕ, map, ap, sym, subst, ◌∙◌, rules, tests, MatchResult}
+use Rattle.std.proofs.Common.{◌∷◌, [], map, ap, sym, ◌∙◌, rules, tests}
 use Rattle.std.proofs.lemmas.Result.{err_from_is_err_and}
 use Rattle.std.proofs.lemmas.List.{map-append}
-use Rattle.std.specs.List.{slice_split}
 use Rattle.dns_name.specs.Name.{is_dot, first_fault}
-use Rattle.dns_name.proofs.Names.{first_fault-append, first_fault-push, first_fault-at}
+use Rattle.dns_name.proofs.Names.{first_fault-push, first_fault-at}
 use Rattle.dns_name.proofs.Splits.{split_turn, split_end}
 use Rattle.dns_name.proofs.label.check_labels.Goals as goal
 

@@ -1,7 +1,7 @@
-use Rattle.std.proofs.Common.{◌≡◌, ◌<◌, ◌∷◌, length, take, drop, sym, ap, ap₂, subst, ◌∙◌, arith, List, ℕ}
+use Rattle.std.proofs.Common.{◌∷◌, take, drop, sym, ap, ap₂, subst, ◌∙◌, arith, List, ℕ}
 use Rattle.dns_name.specs.Name.{IsWire}
 use Rattle.dns_name.specs.Wire.{labels_in}
-use Rattle.dns_name.proofs.Wire.{Cut, cut_wire}
+use Rattle.dns_name.proofs.Wire.{cut_wire}
 use Rattle.dns_name.proofs.label.split_label.Goals as goal
 
 pub split_at-requires : goal.split_at-requires

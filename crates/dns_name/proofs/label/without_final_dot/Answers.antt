@@ -1,4 +1,4 @@
-use Rattle.std.proofs.Common.{◌≡◌, ap, sym, subst, ◌∙◌, ne_eqb, eq-eqb}
+use Rattle.std.proofs.Common.{ap, sym, ◌∙◌, ne_eqb, eq-eqb}
 use Rattle.dns_name.specs.Name.{is_dot}
 use Rattle.dns_name.specs.Parts.{without_final}
 use Rattle.dns_name.proofs.Splits.{without_final_yes, without_final_no}

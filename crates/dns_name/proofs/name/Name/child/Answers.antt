@@ -1,5 +1,5 @@
-use Rattle.std.proofs.Common.{◌≡◌, ◌+◌, ◌∷◌, ◌++◌, List, ℕ, length, ap, ap₂, sym, subst, ◌∙◌, arith, append_assoc, []}
-use Rattle.dns_name.specs.Wire.{wire_form, labels_in}
+use Rattle.std.proofs.Common.{◌≡◌, ◌∷◌, ◌++◌, List, ℕ, length, ap, ap₂, sym, subst, ◌∙◌, arith, append_assoc, []}
+use Rattle.dns_name.specs.Wire.{wire_form}
 use Rattle.dns_name.specs.Name.{lowercase_label, IsName}
 use Rattle.dns_name.proofs.Names.{IsChild, child_made}
 use Rattle.dns_name.proofs.Octets.{octets_from_fits}

@@ -1,4 +1,4 @@
-use Rattle.std.proofs.Common.{◌≡◌, List, ap, sym, subst, ◌∙◌, reverse, map, rules, tests}
+use Rattle.std.proofs.Common.{ap, ◌∙◌, reverse, map, rules, tests}
 use Rattle.std.proofs.lemmas.Result.{err_from_is_err_and}
 use Rattle.std.specs.List.{slice_split}
 use Rattle.dns_name.specs.Name.{is_dot, lowercase_label}

@@ -1,4 +1,4 @@
-use Rattle.std.proofs.Common.{◌≡◌, ap, sym, subst, ◌∙◌, reverse, map, rules, tests}
+use Rattle.std.proofs.Common.{ap, sym, ◌∙◌, reverse, map, rules, tests}
 use Rattle.std.specs.Result.{is_ok}
 use Rattle.dns_name.specs.Name.{is_dot, child_of}
 use Rattle.dns_name.proofs.Printing.{no_label, no_child, name_read}

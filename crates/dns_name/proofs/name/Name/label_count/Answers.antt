@@ -1,5 +1,5 @@
-use Rattle.std.proofs.Common.{arith, ap, length, sym, ◌∙◌}
-use Rattle.dns_name.specs.Wire.{labels_in, wire_form}
+use Rattle.std.proofs.Common.{arith, ap, length}
+use Rattle.dns_name.specs.Wire.{labels_in}
 use Rattle.dns_name.proofs.Wire.{length-wire_form}
 use Rattle.dns_name.proofs.name.Name.label_count.Goals as goal
 

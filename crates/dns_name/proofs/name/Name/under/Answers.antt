@@ -1,4 +1,4 @@
-use Rattle.std.proofs.Common.{◌≡◌, ◌≢◌, true, false, List, ℕ, ap, sym, subst, ◌∙◌}
+use Rattle.std.proofs.Common.{◌≡◌, true, false, ap, sym, ◌∙◌}
 use Rattle.dns_name.specs.Wire.{labels_in}
 use Rattle.dns_name.specs.Name.{is_under}
 use Rattle.dns_name.proofs.Names.{under_itself, root_under, parent_under, under_iff, not_at, at}

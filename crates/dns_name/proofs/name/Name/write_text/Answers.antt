@@ -1,4 +1,4 @@
-use Rattle.std.proofs.Common.{◌≡◌, ◌∷◌, ◌++◌, List, ℕ, ap, sym, subst, ◌∙◌, flat_map}
+use Rattle.std.proofs.Common.{◌∷◌, ◌++◌, List, ℕ, ap, sym, ◌∙◌, flat_map}
 use Rattle.dns_name.specs.Wire.{labels_in}
 use Rattle.dns_name.specs.Printed.{printed_name, printed_byte}
 use Rattle.dns_name.proofs.Printing.{printed-cons}
