@@ -1,0 +1,6 @@
+pub mod Vectors
+pub mod Names
+pub mod Wire
+pub mod Octets
+pub mod Splits
+pub mod Printing

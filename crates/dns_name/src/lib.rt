@@ -1,0 +1,14 @@
+//! Domain names (RFC 1035, section 3.1).
+#![tactic(auto)]
+
+mod fault;
+mod label;
+pub mod laws;
+mod name;
+mod printed;
+
+pub use fault::NameFault;
+pub use name::Name;
+
+#[cfg(test)]
+mod tests;
