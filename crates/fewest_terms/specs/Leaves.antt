@@ -1,4 +1,4 @@
--- The verdicts of a trie, and what belongs to each prefix in the list of its leaves.
+-- The verdicts of a trie, and what belongs to each prefix in the list of its leaves: definitions of the project's own.
 use Rattle.std.specs.Prelude.{ℕ, zero, suc, ◌≡◌, ◌+◌, ◌-◌, ◌*◌, ◌/◌, ◌^◌, nat_le, if◌then◌else◌, List, [], ◌∷◌, ◌++◌, drop, Option, Some, None}
 use Rattle.addr_bits.specs.Prefix.{Cidr}
 use Rattle.addr_bits.specs.Blocks.{lowest, prefix_of}

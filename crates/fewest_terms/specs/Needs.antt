@@ -1,4 +1,5 @@
--- Mixed prefixes, and how many terms a prefix needs. v is the verdict of each address of one family.
+-- Mixed prefixes, and how many terms a prefix needs: definitions of the project's own, over lists whose first match
+-- decides (RFC 7208, section 4.6.2). v is the verdict of each address of one family.
 use Rattle.std.specs.Prelude.{ℕ, zero, suc, ◌≡◌, ◌≢◌, ◌↔◌, ◌+◌, ◌*◌, ◌≤◌, min, Bool, false, ◌||◌, not, if◌then◌else◌, List, IsTrue}
 use Rattle.spf_grammar.specs.declared.verdict.Verdict.{Verdict}
 use Rattle.fewest_terms.specs.Verdicts.{is_same, cost, least}

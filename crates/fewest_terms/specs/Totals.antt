@@ -1,4 +1,4 @@
--- The least number of terms for both families.
+-- The least number of terms for both families: definitions of the project's own.
 use Rattle.std.specs.Prelude.{ℕ, ◌+◌, ◌≤◌, ◌==◌, min, if◌then◌else◌, List, length}
 use Rattle.spf_grammar.specs.declared.verdict.Verdict.{Verdict}
 use Rattle.spf_grammar.specs.declared.verdict.Verdict.TheVariants.{Fail, SoftFail, Pass, Neutral}

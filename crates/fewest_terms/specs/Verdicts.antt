@@ -1,4 +1,4 @@
--- Verdicts: when two are the same, what giving the wrong one costs, and sums over the four.
+-- Verdicts (RFC 7208, section 2.6): when two are the same, and the project's own sums over the four.
 use Rattle.std.specs.Prelude.{ℕ, min, Bool, true, false, if◌then◌else◌}
 use Rattle.spf_grammar.specs.declared.verdict.Verdict.{Verdict}
 use Rattle.spf_grammar.specs.declared.verdict.Verdict.TheVariants.{Fail, SoftFail, Pass, Neutral}

@@ -1,4 +1,7 @@
-use crate::{FlatList, fewest};
+use crate::{
+    FlatList, Needs, chosen_is_shortest, fewest, mixed_is_exact, need_is_small, no_list_is_shorter,
+    no_list_spends_less,
+};
 use addr_bits::Prefix;
 use prefix_trie::TrieMap;
 use spf_grammar::{Verdict, write_flat};
@@ -51,4 +54,31 @@ fn families_of_one_verdict(rt: HostRuntime) -> Result<(), Fail> {
         assert!(rt; spells(&found.list, want));
     }
     Ok(())
+}
+
+#[test]
+fn needs_of_a_mixed_prefix(rt: HostRuntime) {
+    // One half fails, and the other passes.
+    let low = Needs {
+        fail: 0,
+        softfail: 1,
+        pass: 1,
+        neutral: 1,
+    };
+    let high = Needs {
+        fail: 1,
+        pass: 0,
+        ..low
+    };
+    assert_eq!(rt; Needs::of_one(Verdict::Fail), low);
+    assert_eq!(rt; Needs::of_one(Verdict::Pass), high);
+    let sum = low.plus(high);
+    assert_eq!(rt; sum.under_rule(), sum);
+    assert_eq!(rt; sum.number(Verdict::Pass), 1);
+    assert_eq!(rt; sum.total(), 2);
+    mixed_is_exact();
+    no_list_spends_less();
+    need_is_small();
+    no_list_is_shorter();
+    chosen_is_shortest();
 }
