@@ -1,2 +1,5 @@
+pub mod Expansion
 pub mod Grammar
+pub mod Laws
+pub mod Reading
 pub mod Words

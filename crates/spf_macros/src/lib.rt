@@ -1,9 +1,19 @@
 //! Macro texts of SPF (RFC 7208, section 7), and the words that name a domain or a label.
 #![tactic(auto)]
 
+mod domain;
+mod expand;
+mod laws;
+mod letter;
 mod piece;
+mod read;
 mod toplabel;
+mod transformers;
 mod words;
 
+pub use domain::read_domain_spec;
+pub use expand::{Expanded, Need};
+pub use laws::{one_macro_text, written_macro_text};
 pub use piece::{Letter, Macro, MacroText, Piece};
+pub use read::read_macro_text;
 pub use words::{is_domain, is_label};

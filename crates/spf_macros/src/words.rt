@@ -29,7 +29,7 @@ fn is_domain_label(label: &[u8]) -> bool
 }
 
 /// How many labels the text has.
-fn label_count(text: &[u8]) -> usize
+pub(crate) fn label_count(text: &[u8]) -> usize
     ensures { result ≡ length (slice_split (λ b. b == 46) text.now) }
 {
     text.split(|byte| *byte == b'.').count()
@@ -43,7 +43,7 @@ fn are_domain_labels(text: &[u8]) -> bool
 }
 
 /// What stands behind the last dot.
-fn last_label(text: &[u8]) -> &[u8]
+pub(crate) fn last_label(text: &[u8]) -> &[u8]
     ensures { result.now ≡ words.last_label (slice_split (λ b. b == 46) text.now) }
 {
     text.split(|byte| *byte == b'.').last().unwrap_or(text)
