@@ -1,0 +1,4 @@
+-- proofs/Lib.antt
+pub mod DueLemmas
+pub mod EndedLemmas
+pub mod FormLemmas

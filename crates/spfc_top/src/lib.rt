@@ -1,0 +1,10 @@
+//! The top call: what the words ask for is computed whole, and then written.
+#![tactic(auto)]
+
+mod answer;
+mod compile;
+mod form;
+mod text;
+mod top;
+
+pub use top::run;
