@@ -6,5 +6,6 @@ mod compile;
 mod form;
 mod text;
 mod top;
+mod verdicts;
 
 pub use top::run;
