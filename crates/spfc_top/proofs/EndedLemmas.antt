@@ -4,7 +4,7 @@ use Rattle.std.specs.declared.option.Option.{Option}
 use Rattle.spfc_outer.specs.Causes.{Rose}
 use Rattle.spfc_outer.specs.Moved.{AppendsPart}
 use Rattle.spfc_words.specs.declared.job.Job.{Job}
-use Rattle.spfc_top.specs.Findings.{Due, Refuses, Gives}
+use Rattle.spfc_top.specs.Due.{Due, Refuses, Gives}
 use Rattle.spfc_top.specs.Ends.{Given, Tells, IsOutput, IsFinding, IsUsage, IsDueLine, IsFindingStatus, WordsDue, usage, job, HasRoom, EndsDue}
 use Rattle.spfc_top.specs.Ended.{Ended, done, found, no_job, faulty, out_fails, found_unsaid, no_job_unsaid, faulty_unsaid, no_memory}
 

@@ -1,4 +1,5 @@
 -- proofs/Lib.antt
+pub mod CompiledLemmas
 pub mod DueLemmas
 pub mod EndedLemmas
 pub mod FormLemmas

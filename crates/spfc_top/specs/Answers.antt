@@ -9,8 +9,10 @@ use Rattle.spfc_top.specs.declared.answer.Answer.TheVariants.{Output, Usage, Ref
 use Rattle.spfc_top.specs.declared.compile.Stop.{Stop}
 use Rattle.spfc_top.specs.declared.compile.Stop.TheVariants as stop
 use Rattle.spfc_top.specs.Form.{IsForm}
-use Rattle.spfc_top.specs.Lines.{read_fault_line}
-use Rattle.spfc_top.specs.Findings.{Refuses, FileDue, terms_due}
+use Rattle.spfc_top.specs.Lines.{read_fault_line, too_big_line}
+use Rattle.spfc_top.specs.Findings.{FileDue}
+use Rattle.spfc_top.specs.Due.{Refuses}
+use Rattle.spfc_top.specs.Compiled.{TermsDue, FitsAlone}
 use Rattle.spfc_top.specs.Ends.{Given, IsOutput, IsFinding, IsUsage, IsReadFault, IsFindingStatus}
 
 abbrev pub IsAnswer : Given → ℕ → ℕ → Option (List ℕ) → Answer → Type 0
@@ -33,7 +35,7 @@ StopsFile told domain file held faults_before faults_after last_fault stop.Memor
 
 -- why the terms give no output
 abbrev pub StopsTerms : (domain : List ℕ) → List FlatTerm → Stop → Type 0
-StopsTerms domain terms (stop.Refusal status line) = IsFindingStatus status × (terms_due domain terms ≡ Refuses status line)
+StopsTerms domain terms (stop.Refusal status line) = IsFindingStatus status × TermsDue domain terms (Refuses status line)
 StopsTerms domain terms (stop.ReadFault line) = ⊥
 StopsTerms domain terms stop.Memory = ⊤
 
@@ -48,3 +50,9 @@ IsNoReadFault (Output bytes) = ⊤
 IsNoReadFault (Usage line) = ⊤
 IsNoReadFault (Refusal status line) = ⊤
 IsNoReadFault (ReadFault line) = ⊥
+
+-- the list does not fit as one record
+abbrev pub IsTooBig : (domain : List ℕ) → List FlatTerm → Stop → Type 0
+IsTooBig domain list (stop.Refusal status line) = (status ≡ 2) × (line ≡ too_big_line) × ¬ FitsAlone domain list
+IsTooBig domain list (stop.ReadFault line) = ⊥
+IsTooBig domain list stop.Memory = ⊤

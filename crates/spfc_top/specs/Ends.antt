@@ -7,7 +7,8 @@ use Rattle.spfc_outer.specs.Causes.{Rose}
 use Rattle.spfc_words.specs.declared.job.Job.{Job}
 use Rattle.spfc_words.specs.Words.{job_of, texts}
 use Rattle.spfc_top.specs.Lines.{usage_line, read_fault_line}
-use Rattle.spfc_top.specs.Findings.{Due, Refuses, Gives, Contents, IsDue, names_of, reads_none}
+use Rattle.spfc_top.specs.Due.{Due, Refuses, Gives}
+use Rattle.spfc_top.specs.Findings.{Contents, IsDue, IsBest, names_of, reads_none}
 
 -- What a run is given: its words, whether its files tell what they hold, and what they hold.
 pub record Given : Type 0 where
@@ -75,3 +76,9 @@ HasRoom sure_out sure_err (Gives bytes) = length bytes ≤ sure_out
 -- the status is that of what is due, or memory ran out
 abbrev pub EndsDue : Given → ℕ → Type 0
 EndsDue g status = ((due : Due) × WordsDue g due × (status ≡ status_of due)) ⊎ (status ≡ 7)
+
+-- the words give a job, and these bytes are the best output that it can have
+pub record IsBestOutput (g : Given) (bytes : List ℕ) : Type 0 where
+  pub job : Job
+  pub is_job : job_of g.words ≡ Some job
+  pub is_best : Tells g job → IsBest job g.held bytes

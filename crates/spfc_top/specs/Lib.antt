@@ -1,5 +1,7 @@
 -- specs/Lib.antt
 pub mod Answers
+pub mod Compiled
+pub mod Due
 pub mod Ended
 pub mod Ends
 pub mod Findings

@@ -1,12 +1,13 @@
 //! The job that compiles the policy of a domain.
 ghost use Rattle.std.specs.Prelude.{◌≡◌, ◌≤◌, None, IsTrue, OnOk, IfOk, IfErr};
 ghost use Rattle.spfc_top.specs.declared.compile.Stop.TheVariants as stop;
-ghost use Rattle.spfc_top.specs.Findings.{Gives, FileDue, terms_due};
-ghost use Rattle.spfc_top.specs.Answers.{StopsFile, StopsTerms, IsNoFault, HasTerms};
-ghost use Rattle.spfc_top.specs.Form.{IsForm};
+ghost use Rattle.spfc_top.specs.Due.{Gives};
+ghost use Rattle.spfc_top.specs.Findings.{FileDue};
+ghost use Rattle.spfc_top.specs.Answers.{StopsFile, IsNoFault, HasTerms};
 
 use crate::form::{MAX_FORM, read_form};
 use crate::text::line;
+use crate::writing::write_terms;
 use addr_bits::{Bytes, Items};
 use spf_grammar::FlatTerm;
 use spfc_outer::{Files, OpenFault, load};
@@ -45,7 +46,7 @@ pub(crate) fn compile<F: Files>(
     ensures never_fails { IsTrue (F.is_assured files.old) → IfErr result IsNoFault }
 {
     let terms = take_up(alloc, files, domain, file)?;
-    write_terms(alloc, domain, &terms)
+    write_terms(alloc, domain, terms.as_slice())
 }
 
 // The terms of the record in the file.
@@ -83,13 +84,4 @@ fn take_up<F: Files>(
         });
     };
     Ok(terms)
-}
-
-// The fragment of a shortest list with the verdicts of the terms.
-fn write_terms(alloc: Global, domain: &[u8], terms: &Items<FlatTerm>) -> Result<Bytes, Stop>
-    ensures done { IfOk result (λ bytes. terms_due domain.now terms.now ≡ Gives bytes) }
-    ensures stops { IfErr result (StopsTerms domain.now terms.now) }
-{
-    let bytes = line(alloc, "", domain)?;
-    Ok(bytes)
 }

@@ -7,5 +7,6 @@ mod form;
 mod text;
 mod top;
 mod verdicts;
+mod writing;
 
 pub use top::run;

@@ -3,7 +3,7 @@ ghost use Rattle.std.specs.Prelude.{◌≡◌, ◌≤◌, ◌⊎◌, List, ℕ, 
 ghost use Rattle.std.specs.Io.KnownBytes.{Appends};
 ghost use Rattle.spfc_outer.specs.Causes.{Rose};
 ghost use Rattle.spfc_outer.specs.Moved.{AppendsPart};
-ghost use Rattle.spfc_top.specs.Findings.{Due};
+ghost use Rattle.spfc_top.specs.Due.{Due};
 ghost use Rattle.spfc_top.specs.Ends.{given, IsOutput, IsFinding, IsUsage, IsReadFault, IsDueLine, IsFindingStatus, WordsDue, HasRoom, EndsDue};
 ghost use Rattle.spfc_top.specs.Ended.{Ended};
 
