@@ -10,3 +10,6 @@ mod verdicts;
 mod writing;
 
 pub use top::run;
+
+#[cfg(test)]
+mod tests;
