@@ -1,11 +1,13 @@
 -- What follows from how a run ended.
 use Rattle.std.proofs.Common.{◌≡◌, ◌<◌, ◌≤◌, ◌⊎◌, ℕ, List, IsTrue, length, refl, arith, sym, ◌∙◌, ap, inl, inr, true, false}
 use Rattle.std.specs.declared.option.Option.{Option}
+use Rattle.std.specs.Io.KnownBytes.{Appends}
 use Rattle.spfc_outer.specs.Causes.{Rose}
 use Rattle.spfc_outer.specs.Moved.{AppendsPart}
 use Rattle.spfc_words.specs.declared.job.Job.{Job}
 use Rattle.spfc_top.specs.Due.{Due, Refuses, Gives}
-use Rattle.spfc_top.specs.Ends.{Given, Tells, IsOutput, IsFinding, IsUsage, IsDueLine, IsFindingStatus, WordsDue, usage, job, HasRoom, EndsDue}
+use Rattle.spfc_top.specs.Ends.{Given, Tells, IsOutput, IsBestOutput, IsFinding, IsUsage, IsDueLine, IsFindingStatus, WordsDue, usage, job, HasRoom, EndsDue}
+use Rattle.spfc_top.proofs.ShortestLemmas.{best_output}
 use Rattle.spfc_top.specs.Ended.{Ended, done, found, no_job, faulty, out_fails, found_unsaid, no_job_unsaid, faulty_unsaid, no_memory}
 
 not_six : {n : ℕ} → IsFindingStatus n → n ≡ 6 → ⊥
@@ -13,6 +15,12 @@ not_six (inl a) b = omega arith
 not_six (inr (inl a)) b = omega arith
 not_six (inr (inr (inl a))) b = omega arith
 not_six (inr (inr (inr a))) b = omega arith
+
+not_zero : {n : ℕ} → IsFindingStatus n → n ≡ 0 → ⊥
+not_zero (inl a) b = omega arith
+not_zero (inr (inl a)) b = omega arith
+not_zero (inr (inr (inl a))) b = omega arith
+not_zero (inr (inr (inr a))) b = omega arith
 
 pub write_fault_of : {g : Given} {faults_before faults_after : ℕ} {last_fault : Option (List ℕ)} {sure_files : Type 0}
     {out_before out_after : Option (List ℕ)} {out_faults_before out_faults_after sure_out : ℕ} {same_out : Type 0}
@@ -41,6 +49,21 @@ finding_due g status line told is = job is.job is.is_job (is.is_due (told_tells 
 
 usage_due : (g : Given) (line : List ℕ) → IsUsage g line → WordsDue g (Refuses 4 line)
 usage_due g line is = usage is.no_job (ap (λ (l : List ℕ). Refuses 4 l) is.is_line)
+
+pub best_of : {g : Given} {faults_before faults_after : ℕ} {last_fault : Option (List ℕ)} {sure_files : Type 0}
+    {out_before out_after : Option (List ℕ)} {out_faults_before out_faults_after sure_out : ℕ} {same_out : Type 0}
+    {err_before err_after : Option (List ℕ)} {err_faults_before err_faults_after sure_err : ℕ} {same_err : Type 0}
+    {result : ℕ} → Ended g faults_before faults_after last_fault sure_files out_before out_after out_faults_before out_faults_after sure_out same_out err_before err_after err_faults_before err_faults_after sure_err same_err result → result ≡ 0 →
+    (bytes : List ℕ) × IsBestOutput g bytes × Appends out_before out_after bytes
+best_of (done bytes is a b c) zero_is = (bytes, best_output _ bytes a, b)
+best_of (found line is a b c) zero_is = absurd (not_zero is zero_is)
+best_of (no_job line is a b c) zero_is = absurd (omega arith)
+best_of (faulty line is a b c d) zero_is = absurd (omega arith)
+best_of (out_fails bytes is a rose b c d) zero_is = absurd (omega arith)
+best_of (found_unsaid status line is a rose b c d) zero_is = absurd (omega arith)
+best_of (no_job_unsaid line is a rose b c d) zero_is = absurd (omega arith)
+best_of (faulty_unsaid line is a b rose c d) zero_is = absurd (omega arith)
+best_of (no_memory is a b) zero_is = absurd (omega arith)
 
 pub complete_of : {g : Given} {faults_before faults_after : ℕ} {last_fault : Option (List ℕ)} {sure_files : Type 0}
     {out_before out_after : Option (List ℕ)} {out_faults_before out_faults_after sure_out : ℕ} {same_out : Type 0}

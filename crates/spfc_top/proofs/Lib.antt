@@ -3,3 +3,4 @@ pub mod CompiledLemmas
 pub mod DueLemmas
 pub mod EndedLemmas
 pub mod FormLemmas
+pub mod ShortestLemmas

@@ -4,7 +4,7 @@ ghost use Rattle.std.specs.Io.KnownBytes.{Appends};
 ghost use Rattle.spfc_outer.specs.Causes.{Rose};
 ghost use Rattle.spfc_outer.specs.Moved.{AppendsPart};
 ghost use Rattle.spfc_top.specs.Due.{Due};
-ghost use Rattle.spfc_top.specs.Ends.{given, IsOutput, IsFinding, IsUsage, IsReadFault, IsDueLine, IsFindingStatus, WordsDue, HasRoom, EndsDue};
+ghost use Rattle.spfc_top.specs.Ends.{given, IsOutput, IsBestOutput, IsFinding, IsUsage, IsReadFault, IsDueLine, IsFindingStatus, WordsDue, HasRoom, EndsDue};
 ghost use Rattle.spfc_top.specs.Ended.{Ended};
 
 use crate::answer::{Answer, answer_words};
@@ -33,6 +33,10 @@ pub fn run<F: Files, K: Sink, E: Sink>(
     // 0: the words give a job, and `out` gained its output.
     ensures done { result ≡ 0 → (bytes : List ℕ) × IsOutput (given words.now (F.told files.old) (F.held files.old)) bytes
         × Appends (K.bytes out.old) (K.bytes out.new) bytes × (err.new ≡ err.old) }
+
+    // What was written is the best that the job can have: of `compile`, a shortest list with the verdicts of the record.
+    ensures best { result ≡ 0 → (bytes : List ℕ) × IsBestOutput (given words.now (F.told files.old) (F.held files.old)) bytes
+        × Appends (K.bytes out.old) (K.bytes out.new) bytes }
 
     // 1, 2, 3 and 8: the words give a job, it is refused so, and `err` gained the line.
     ensures finding { IsFindingStatus result → (line : List ℕ) × IsFinding (given words.now (F.told files.old) (F.held files.old)) result line
