@@ -1,0 +1,6 @@
+-- proofs/Lib.antt
+pub mod CompiledLemmas
+pub mod DueLemmas
+pub mod EndedLemmas
+pub mod FormLemmas
+pub mod ShortestLemmas

@@ -1,0 +1,72 @@
+-- The output is a shortest one.
+use Rattle.std.proofs.Common.{◌≡◌, ◌<◌, ◌≤◌, ◌^◌, ℕ, List, length, refl, sym, ◌∙◌, IsTrue}
+use Rattle.addr_bits.specs.Address.{IsAddress}
+use Rattle.addr_bits.specs.declared.address.Address.{Address}
+use Rattle.addr_bits.specs.declared.address.Address.TheVariants.{V4, V6}
+use Rattle.addr_bits.specs.declared.address.Family.TheVariants as family
+use Rattle.spf_grammar.specs.declared.verdict.Verdict.{Verdict}
+use Rattle.spf_grammar.specs.declared.flat.FlatTerm.{FlatTerm}
+use Rattle.spf_grammar.specs.Flat.{first}
+use Rattle.spf_grammar.specs.Families.{HavePrefixes}
+use Rattle.spf_grammar.specs.Lists.{IsSame}
+use Rattle.spf_grammar.proofs.FirstLemmas.{first-seen}
+use Rattle.fewest_terms.specs.Chosen.{chosen_list}
+use Rattle.fewest_terms.specs.Totals.{total}
+use Rattle.fewest_terms.specs.Tables.{need_rows, IsGoodTable}
+use Rattle.fewest_terms.proofs.AnswerLemmas.{list-shortest, list-counted, list-prefixes, list-gives4, list-gives6}
+use Rattle.fewest_terms.proofs.TableLemmas.{need_rows-good}
+use Rattle.spfc_words.specs.declared.job.Job.{Job}
+use Rattle.spfc_words.specs.declared.job.Job.TheVariants.{Compile}
+use Rattle.spfc_top.specs.Due.{Due, Refuses, Gives}
+use Rattle.spfc_top.specs.Compiled.{fragment_of_one, AreVerdicts, TermsDue, too_big, written, IsShortest}
+use Rattle.spfc_top.specs.Findings.{Contents, FileDue, no_file, not_yet, read, IsDue, IsBest}
+use Rattle.spfc_top.specs.Ends.{Given, IsOutput, IsBestOutput}
+
+refuses_not : {status : ℕ} {line bytes : List ℕ} → Gives bytes ≡ Refuses status line → ⊥
+refuses_not e = cc
+
+gives_same : {a b : List ℕ} → Gives a ≡ Gives b → a ≡ b
+gives_same e = cc
+
+-- a list that gives the verdicts of the terms, as each family sees it
+gives_same_verdicts : (terms other : List FlatTerm) (v4 v6 : ℕ → Verdict) → AreVerdicts terms v4 v6 → HavePrefixes other →
+    ((a : Address) → IsAddress a → first other a ≡ first terms a) → IsSame v4 v6 other
+gives_same_verdicts terms other v4 v6 are has same = record {
+  four = λ a lt. sym (first-seen family.V4 other a has) ∙ (same (V4 a) lt ∙ sym (are.four a lt));
+  six = λ a lt. sym (first-seen family.V6 other a has) ∙ (same (V6 a) lt ∙ sym (are.six a lt));
+}
+
+chosen_gives : (terms : List FlatTerm) (v4 v6 : ℕ → Verdict) → AreVerdicts terms v4 v6 → (a : Address) → IsAddress a → first (chosen_list v4 v6) a ≡ first terms a
+chosen_gives terms v4 v6 are (V4 a) lt = list-gives4 v4 v6 (chosen_list v4 v6) refl a lt ∙ are.four a lt
+chosen_gives terms v4 v6 are (V6 a) lt = list-gives6 v4 v6 (chosen_list v4 v6) refl a lt ∙ are.six a lt
+
+rows_good : (v4 v6 : ℕ → Verdict) → IsGoodTable v4 v6 (need_rows 32 v4 32 0) (need_rows 128 v6 128 0) (total v4 v6)
+unfolding total
+rows_good v4 v6 = need_rows-good v4 v6
+
+pub shortest_of : (domain : List ℕ) (terms : List FlatTerm) (bytes : List ℕ) → TermsDue domain terms (Gives bytes) → IsShortest domain terms bytes
+shortest_of domain terms bytes (too_big v4 v6 are unfit is) = absurd (refuses_not is)
+shortest_of domain terms bytes (written v4 v6 are fits is) = record {
+  list = chosen_list v4 v6;
+  rows4 = need_rows 32 v4 32 0;
+  rows6 = need_rows 128 v6 128 0;
+  sum = total v4 v6;
+  v4 = v4;
+  v6 = v6;
+  written = gives_same is;
+  fits = fits;
+  prefixes = list-prefixes v4 v6 (chosen_list v4 v6) refl;
+  same = chosen_gives terms v4 v6 are;
+  shortest = λ other has same. list-shortest v4 v6 (chosen_list v4 v6) other refl (gives_same_verdicts terms other v4 v6 are has same);
+  verdicts = are;
+  table = rows_good v4 v6;
+  counted = list-counted v4 v6 (chosen_list v4 v6) (total v4 v6) refl refl;
+}
+
+best_of_job : (job : Job) (held : Contents) (bytes : List ℕ) → IsDue job held (Gives bytes) → IsBest job held bytes
+best_of_job (Compile domain file) held bytes (no_file none is) = absurd (refuses_not is)
+best_of_job (Compile domain file) held bytes (not_yet contents has none is) = absurd (refuses_not is)
+best_of_job (Compile domain file) held bytes (read contents terms has form due) = (contents, terms, has, form, shortest_of domain terms bytes due)
+
+pub best_output : (g : Given) (bytes : List ℕ) → IsOutput g bytes → IsBestOutput g bytes
+best_output g bytes is = record { job = is.job; is_job = is.is_job; is_best = λ t. best_of_job is.job g.held bytes (is.is_due t) }

@@ -1,0 +1,15 @@
+//! The top call: what the words ask for is computed whole, and then written.
+#![tactic(auto)]
+
+mod answer;
+mod compile;
+mod form;
+mod text;
+mod top;
+mod verdicts;
+mod writing;
+
+pub use top::run;
+
+#[cfg(test)]
+mod tests;

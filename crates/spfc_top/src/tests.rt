@@ -1,0 +1,268 @@
+use super::*;
+use addr_bits::Bytes;
+use spfc_outer::{Calls, FileList, MemFiles, MemSink};
+use std::alloc::{AllocError, Global};
+use std::process::Abort;
+use std::test::Fail;
+
+fn bytes(alloc: Global, text: &[u8]) -> Result<Bytes, AllocError> {
+    let mut bytes = Bytes::new(alloc);
+    bytes.extend_from_slice(text)?;
+    Ok(bytes)
+}
+
+fn calls(alloc: Global, numbers: &[u64]) -> Result<Calls, AllocError> {
+    let mut calls = Calls::new(alloc);
+    calls.extend_from_slice(numbers)?;
+    Ok(calls)
+}
+
+// One file, and calls that fail. A read takes at most 16 bytes.
+fn one_file(
+    alloc: Global,
+    name: &[u8],
+    contents: &[u8],
+    fails: &[u64],
+) -> Result<MemFiles, AllocError> {
+    let mut files = FileList::new(alloc);
+    files.push((bytes(alloc, name)?, bytes(alloc, contents)?))?;
+    Ok(MemFiles::new(files, 16, calls(alloc, fails)?))
+}
+
+// A sink with calls that fail. A write takes at most 10 bytes.
+fn sink(alloc: Global, fails: &[u64]) -> Result<MemSink, AllocError> {
+    MemSink::new(alloc, 4096, 10, calls(alloc, fails)?)
+}
+
+fn words(alloc: Global, texts: &[&str]) -> Result<Vec<String>, AllocError> {
+    let mut words = Vec::new(alloc);
+    for text in texts {
+        words.push(String::from_str(alloc, text)?)?;
+    }
+    Ok(words)
+}
+
+const WORDS: [&str; 3] = ["compile", "example.com", "example.com=z"];
+
+const ROW_1: &[u8] = b"@ IN TXT \"v=spf1 ip4:192.0.2.0/25 ip4:192.0.2.128/25 -all\"\n";
+
+// A file, and the output whole, or what it begins and ends with.
+struct Output<'a> {
+    file: &'a [u8],
+    begins: &'a [u8],
+    ends: &'a [u8],
+    len: usize,
+}
+
+const OUTPUTS: [Output<'static>; 5] = [
+    Output {
+        file: ROW_1,
+        begins: b"$ORIGIN example.com.\n$TTL 3600\n@ IN TXT \"v=spf1 ip4:192.0.2.0/24 -all\"\n; row 0.0.0.0/0 1 2 2 2\n",
+        ends: b"; row 192.0.0.0/22 1 2 2 2\n; row 192.0.2.0/23 1 2 1 2\n; fewest 2\n",
+        len: 718,
+    },
+    Output {
+        file: b"@ IN TXT \"v=spf1 ?all\"\n",
+        begins: b"$ORIGIN example.com.\n$TTL 3600\n@ IN TXT \"v=spf1\"\n; fewest 0\n",
+        ends: b"; fewest 0\n",
+        len: 60,
+    },
+    Output {
+        file: b"@ IN TXT \"v=spf1 +all\"\n",
+        begins: b"$ORIGIN example.com.\n$TTL 3600\n@ IN TXT \"v=spf1 all\"\n; fewest 1\n",
+        ends: b"; fewest 1\n",
+        len: 64,
+    },
+    Output {
+        file: b"@ IN TXT \"v=spf1 ip4:0.0.0.0/1 -all\"\n",
+        begins: b"$ORIGIN example.com.\n$TTL 3600\n@ IN TXT \"v=spf1 ip4:0.0.0.0/1 -all\"\n; row 0.0.0.0/0 1 2 1 2\n; fewest 2\n",
+        ends: b"; fewest 2\n",
+        len: 103,
+    },
+    Output {
+        file: b"@ IN TXT \"v=spf1 -ip4:10.1.0.0/16 ip4:10.0.0.0/8 -all\"\n",
+        begins: b"$ORIGIN example.com.\n$TTL 3600\n@ IN TXT \"v=spf1 -ip4:10.1.0.0/16 ip4:10.0.0.0/8 -all\"\n; row ",
+        ends: b"; fewest 3\n",
+        len: 0,
+    },
+];
+
+fn try_output(rt: &impl Abort, alloc: Global, case: &Output<'_>) -> Result<(), Fail> {
+    let mut files = one_file(alloc, b"z", case.file, &[])?;
+    let mut out = sink(alloc, &[])?;
+    let mut err = sink(alloc, &[])?;
+    let status = run(
+        alloc,
+        &words(alloc, &WORDS)?,
+        &mut files,
+        &mut out,
+        &mut err,
+    );
+    assert_eq!(rt; status, 0);
+    assert!(rt; out.bytes().starts_with(case.begins) && out.bytes().ends_with(case.ends));
+    assert!(rt; case.len == 0 || out.bytes().len() == case.len);
+    assert!(rt; err.bytes().is_empty());
+    Ok(())
+}
+
+#[test]
+fn a_shortest_list_is_written(rt: HostRuntime) -> Result<(), Fail> {
+    for case in &OUTPUTS {
+        try_output(&rt, rt.alloc(), case)?;
+    }
+    Ok(())
+}
+
+// Words and a file, and the status and the line that they come to.
+struct Refusal<'a> {
+    words: &'a [&'a str],
+    name: &'a [u8],
+    file: &'a [u8],
+    status: u8,
+    line: &'a [u8],
+}
+
+const REFUSALS: [Refusal<'static>; 8] = [
+    Refusal {
+        words: &["compile", "example.com", "example.com=z"],
+        name: b"z",
+        file: b"@ IN TXT \"v=spf1 a -all\"\n",
+        status: 3,
+        line: b"not yet example.com\n",
+    },
+    Refusal {
+        words: &["compile", "example.com", "example.com=z"],
+        name: b"z",
+        file: b"",
+        status: 3,
+        line: b"not yet example.com\n",
+    },
+    Refusal {
+        words: &["compile", "Example.com", "example.com=z"],
+        name: b"z",
+        file: b"@ IN TXT \"v=spf1 ip4:200.100.100.0/24 ip4:200.100.102.0/24 ip4:200.100.104.0/24 ip4:200.100.106.1 ip4:200.100.108.1 ip4:200.100.110.1 ip4:200.100.112.1 ip4:200.100.114.1 ip4:200.100.116.1 ip4:200.100.118.1 ip4:200.100.120.1 ip4:200.100.122.1 ip4:200.100.124.1 ip4:200.100.126.1 ip4:200.100.128.1\"\n",
+        status: 3,
+        line: b"not yet example.com\n",
+    },
+    Refusal {
+        words: &["compile", "example.com", "example.com=z"],
+        name: b"y",
+        file: ROW_1,
+        status: 3,
+        line: b"no file z\n",
+    },
+    Refusal {
+        words: &["compile", "example", "example=z"],
+        name: b"z",
+        file: ROW_1,
+        status: 4,
+        line: b"usage\n",
+    },
+    Refusal {
+        words: &["compile", "example", "example.com=z"],
+        name: b"z",
+        file: ROW_1,
+        status: 4,
+        line: b"usage\n",
+    },
+    Refusal {
+        words: &["compile", "example.com", "--size", "63", "example.com=z"],
+        name: b"z",
+        file: ROW_1,
+        status: 4,
+        line: b"usage\n",
+    },
+    Refusal {
+        words: &["compile", "example.com", "example.com=z", "EXAMPLE.com=y"],
+        name: b"z",
+        file: ROW_1,
+        status: 4,
+        line: b"usage\n",
+    },
+];
+
+fn try_refusal(rt: &impl Abort, alloc: Global, case: &Refusal<'_>) -> Result<(), Fail> {
+    let mut files = one_file(alloc, case.name, case.file, &[])?;
+    let mut out = sink(alloc, &[])?;
+    let mut err = sink(alloc, &[])?;
+    let words = words(alloc, case.words)?;
+    assert_eq!(rt;
+        run(alloc, &words, &mut files, &mut out, &mut err),
+        case.status
+    );
+    assert_eq!(rt; err.bytes(), case.line);
+    assert!(rt; out.bytes().is_empty());
+    Ok(())
+}
+
+#[test]
+fn what_has_no_output_is_refused(rt: HostRuntime) -> Result<(), Fail> {
+    for case in &REFUSALS {
+        try_refusal(&rt, rt.alloc(), case)?;
+    }
+    Ok(())
+}
+
+// A third call of the files that fails, and a second write.
+#[test]
+fn faults_are_told(rt: HostRuntime) -> Result<(), Fail> {
+    let alloc = rt.alloc();
+    let words = words(alloc, &WORDS)?;
+    let mut files = one_file(alloc, b"z", ROW_1, &[3])?;
+    let mut out = sink(alloc, &[])?;
+    let mut err = sink(alloc, &[])?;
+    assert_eq!(rt; run(alloc, &words, &mut files, &mut out, &mut err), 5);
+    assert_eq!(rt; err.bytes(), b"read fault z\n".as_slice());
+
+    let mut files = one_file(alloc, b"z", ROW_1, &[])?;
+    let mut out = sink(alloc, &[2])?;
+    let mut err = sink(alloc, &[])?;
+    assert_eq!(rt; run(alloc, &words, &mut files, &mut out, &mut err), 6);
+    assert_eq!(rt; out.bytes(), b"$ORIGIN ex".as_slice());
+    assert!(rt; err.bytes().is_empty());
+    Ok(())
+}
+
+// A record of ten terms that do not merge, which has 216 octets.
+const TEN_TERMS: &[u8] =
+    b"@ IN TXT \"v=spf1 ip4:200.100.100.0/24 ip4:200.100.102.0/24 ip4:200.100.104.0/24 ip4:200.100.106.0/24 ip4:200.100.108.0/24 ip4:200.100.110.0/24 ip4:200.100.112.0/24 ip4:200.100.114.0/24 ip4:200.100.116.0/24 ip4:200.100.118.0/24\"\n";
+
+// Four labels, the last of which has this many characters; 192 stand before it.
+fn long_domain(alloc: Global, last: usize) -> Result<String, AllocError> {
+    let mut domain = String::new(alloc);
+    for _ in 0..3 {
+        for _ in 0..63 {
+            domain.push('a')?;
+        }
+        domain.push('.')?;
+    }
+    for _ in 0..last {
+        domain.push('b')?;
+    }
+    Ok(domain)
+}
+
+fn try_long(rt: &impl Abort, alloc: Global, last: usize, status: u8) -> Result<(), Fail> {
+    let mut files = one_file(alloc, b"z", TEN_TERMS, &[])?;
+    let mut out = sink(alloc, &[])?;
+    let mut err = sink(alloc, &[])?;
+    let mut words = words(alloc, &["compile"])?;
+    words.push(long_domain(alloc, last)?)?;
+    let mut zone = long_domain(alloc, last)?;
+    zone.push_str("=z")?;
+    words.push(zone)?;
+    assert_eq!(rt; run(alloc, &words, &mut files, &mut out, &mut err), status);
+    if status == 2 {
+        assert_eq!(rt; err.bytes(), b"too big\n".as_slice());
+    }
+    Ok(())
+}
+
+// The domain and the text have together less than 450 octets, as many, or more, or the domain is too long.
+#[test]
+fn a_record_fits_or_is_too_big(rt: HostRuntime) -> Result<(), Fail> {
+    for (last, status) in [(41usize, 0u8), (42, 2), (54, 2), (55, 4)] {
+        try_long(&rt, rt.alloc(), last, status)?;
+    }
+    Ok(())
+}
