@@ -1,5 +1,5 @@
 -- What a family sees of a list decides for its addresses.
-use Rattle.std.proofs.Common.{ℕ, ◌≡◌, ◌-◌, ◌*◌, ◌/◌, ◌^◌, ◌==◌, Bool, cond, List, [], ◌∷◌, inl, inr, refl, sym, ◌∙◌, ap, ap₂, pow_pos, mul-div_cancel}
+use Rattle.std.proofs.Common.{ℕ, ◌≡◌, ◌-◌, ◌*◌, ◌/◌, ◌^◌, ◌==◌, cond, [], ◌∷◌, inl, inr, refl, sym, ◌∙◌, ap, ap₂, pow_pos, mul-div_cancel}
 use Rattle.std.proofs.lemmas.Bool.Decides.{eqb_tells}
 use Rattle.addr_bits.specs.Width.{cut_of}
 use Rattle.addr_bits.specs.Prefix.{Cidr, IsCidr}
