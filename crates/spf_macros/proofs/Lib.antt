@@ -1,7 +1,9 @@
 pub mod DomainSpecs
 pub mod Digits
+pub mod Escapes
 pub mod MacroReading
 pub mod MacroTexts
 pub mod OneReading
+pub mod PartTexts
 pub mod Spans
 pub mod WrittenForm

@@ -1,5 +1,5 @@
 -- What a macro text expands to (RFC 7208, sections 7.2 to 7.4).
-use Rattle.std.specs.Prelude.{ℕ, ◌+◌, ◌-◌, ◌/◌, ◌%◌, Bool, ◌||◌, ◌==◌, nat_lt, nat_le, List, [], ◌∷◌, ◌++◌, length, drop, reverse, flat_map, codes, if◌then◌else◌}
+use Rattle.std.specs.Prelude.{◌≡◌, Option, Some, None, ℕ, ◌+◌, ◌-◌, ◌/◌, ◌%◌, Bool, ◌||◌, ◌==◌, nat_lt, nat_le, List, [], ◌∷◌, ◌++◌, length, drop, reverse, flat_map, codes, if◌then◌else◌}
 use Rattle.std.specs.List.{list_any, slice_split, join_with_byte}
 use Rattle.std.specs.Char.{is_ascii_alphabetic, is_ascii_digit}
 use Rattle.addr_bits.specs.declared.address.Family.{Family}
@@ -9,9 +9,10 @@ use Rattle.spf_macros.specs.declared.piece.Letter.TheVariants.{S, L, O, D, I, P,
 use Rattle.spf_macros.specs.declared.piece.Macro.{Macro}
 use Rattle.spf_macros.specs.declared.piece.Piece.{Piece}
 use Rattle.spf_macros.specs.declared.piece.Piece.TheVariants.{Literal, Percent, Space, Percent20, Expand}
-use Rattle.spf_macros.specs.declared.expand.Need.TheVariants as need
-use Rattle.spf_macros.specs.declared.expand.Expanded.{Expanded}
-use Rattle.spf_macros.specs.declared.expand.Expanded.TheVariants.{Out, Needs}
+use Rattle.spf_macros.specs.declared.expansion.Need.{Need}
+use Rattle.spf_macros.specs.declared.expansion.Need.TheVariants as need
+use Rattle.spf_macros.specs.declared.expansion.Expanded.{Expanded}
+use Rattle.spf_macros.specs.declared.expansion.Expanded.TheVariants.{Out, Needs}
 use Rattle.spf_macros.specs.Grammar.{is_in_set}
 
 -- the text without one final dot
@@ -109,3 +110,8 @@ fitted (Needs n) = Needs n
 -- the text that a domain-spec asks for: its expansion, without one final dot, cut to fit (RFC 7208, section 7.3)
 abbrev pub target : Family → List ℕ → List Piece → Expanded
 target family domain pieces = fitted (expansion family domain pieces)
+
+-- the text is appended, or the need is answered
+abbrev pub Expands : Expanded → List ℕ → List ℕ → Option Need → Type 0
+Expands (Out text) old new need = (need ≡ None) × (new ≡ old ++ text)
+Expands (Needs n) old new need = need ≡ Some n

@@ -2,18 +2,21 @@
 #![tactic(auto)]
 
 mod domain;
-mod expand;
+mod expansion;
 mod laws;
 mod letter;
+mod parts;
 mod piece;
 mod read;
 mod toplabel;
 mod transformers;
 mod words;
+mod write;
 
 pub use domain::read_domain_spec;
-pub use expand::{Expanded, Need};
+pub use expansion::{Expanded, Need, expand};
 pub use laws::{one_macro_text, written_macro_text};
 pub use piece::{Letter, Macro, MacroText, Piece};
 pub use read::read_macro_text;
 pub use words::{is_domain, is_label};
+pub use write::write_macro_text;

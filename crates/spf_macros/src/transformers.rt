@@ -110,3 +110,19 @@ pub(crate) fn delimiter_set(delimiters: &[u8]) -> u8
         + bit_of(delimiters, b'_', 32)
         + bit_of(delimiters, b'=', 64)
 }
+
+/// Whether the byte is a delimiter of the set.
+pub(crate) fn is_in_set(set: u8, byte: u8) -> bool
+    ensures { result ≡ grammar.is_in_set set byte }
+{
+    match byte {
+        b'.' => set % 2 == 1,
+        b'-' => set / 2 % 2 == 1,
+        b'+' => set / 4 % 2 == 1,
+        b',' => set / 8 % 2 == 1,
+        b'/' => set / 16 % 2 == 1,
+        b'_' => set / 32 % 2 == 1,
+        b'=' => set / 64 % 2 == 1,
+        _ => false,
+    }
+}
