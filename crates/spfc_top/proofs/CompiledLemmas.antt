@@ -1,5 +1,5 @@
 -- What is due for terms, by the list that was found.
-use Rattle.std.proofs.Common.{◌≡◌, ◌<◌, ◌^◌, ℕ, List, [], Some, Option, Result, Ok, Err, IfOk, IfErr, ap, sym, ◌∙◌, inl, inr, refl}
+use Rattle.std.proofs.Common.{◌≡◌, ◌<◌, ◌^◌, ℕ, List, Some, Result, Ok, Err, IfOk, IfErr, ap, ◌∙◌, inl, inr}
 use Rattle.addr_bits.specs.Prefix.{Cidr}
 use Rattle.addr_bits.specs.declared.address.Address.TheVariants.{V4, V6}
 use Rattle.prefix_trie.specs.Leaves.{value_at}
@@ -13,7 +13,6 @@ use Rattle.fewest_terms.specs.Tables.{need_rows}
 use Rattle.fewest_terms.specs.Leaves.{or_neutral, verdict_at}
 use Rattle.spfc_top.specs.declared.compile.Stop.{Stop}
 use Rattle.spfc_top.specs.declared.compile.Stop.TheVariants as stop
-use Rattle.spfc_top.specs.Lines.{too_big_line}
 use Rattle.spfc_top.specs.Due.{Refuses, Gives}
 use Rattle.spfc_top.specs.Compiled.{FitsAlone, fragment_of_one, AreVerdicts, TermsDue, too_big, written}
 use Rattle.spfc_top.specs.Answers.{StopsTerms, IsTooBig}

@@ -1,5 +1,5 @@
 -- What is due for a job, by what was read.
-use Rattle.std.proofs.Common.{◌≡◌, ◌≤◌, ◌||◌, ℕ, Bool, true, false, List, Some, None, Option, Result, Ok, Err, IfOk, IfErr, IsTrue, length, take, Vec, arith, ap, sym, refl, ◌∙◌, length-append, codes, ◌++◌}
+use Rattle.std.proofs.Common.{◌≡◌, ◌≤◌, ◌||◌, ℕ, Bool, true, false, List, Some, None, Option, Result, Ok, Err, IfOk, IfErr, IsTrue, length, take, Vec, arith, ap, refl, ◌∙◌, length-append, codes}
 use Rattle.std.proofs.lemmas.List.{length-take, take_all}
 use Rattle.std.specs.declared.alloc.Global.{Global}
 use Rattle.spf_grammar.specs.declared.flat.FlatTerm.{FlatTerm}

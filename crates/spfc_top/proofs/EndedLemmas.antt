@@ -1,5 +1,5 @@
 -- What follows from how a run ended.
-use Rattle.std.proofs.Common.{◌≡◌, ◌<◌, ◌≤◌, ◌⊎◌, ℕ, List, IsTrue, length, refl, arith, sym, ◌∙◌, ap, inl, inr, true, false}
+use Rattle.std.proofs.Common.{◌≡◌, ◌<◌, ◌≤◌, ◌⊎◌, ℕ, List, IsTrue, length, refl, arith, ap, inl, inr, true, false}
 use Rattle.std.specs.declared.option.Option.{Option}
 use Rattle.std.specs.Io.KnownBytes.{Appends}
 use Rattle.spfc_outer.specs.Causes.{Rose}

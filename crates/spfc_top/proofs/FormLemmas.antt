@@ -1,5 +1,5 @@
 -- The parts of a file of one line.
-use Rattle.std.proofs.Common.{zero, suc, Option, Some, None, Result, Ok, Err, IfOk, MatchOption, map, get_or, Bor, ◌≡◌, ◌<◌, ◌≤◌, ◌==◌, ◌+◌, ◌-◌, ◌/◌, ◌%◌, ℕ, Bool, true, false, List, [], ◌∷◌, ◌++◌, length, take, drop, codes, decimal, nat_eq, IsTrue, ◌↔◌, refl, sym, ap, ◌∙◌, arith, lit<, rules}
+use Rattle.std.proofs.Common.{zero, suc, Option, Some, None, Result, Ok, Err, IfOk, MatchOption, map, get_or, Bor, ◌≡◌, ◌<◌, ◌≤◌, ◌+◌, ◌/◌, ◌%◌, ℕ, Bool, true, false, List, [], ◌∷◌, ◌++◌, length, take, drop, codes, decimal, nat_eq, IsTrue, ◌↔◌, refl, sym, ap, ◌∙◌, arith}
 use Rattle.std.specs.Cmp.Lexicographic.{pointwise}
 use Rattle.std.proofs.lemmas.List.{take-append-drop, append_cancel_right}
 use Rattle.std.proofs.lemmas.Slice.Eq.{slice_eq-Decides}
@@ -84,7 +84,7 @@ no_terms (w ∷ ws) zero d lt none (t ∷ ts) h = none t h.0
 no_terms (w ∷ ws) (suc i) d lt none (t ∷ ts) h = no_terms ws i d (omega arith) none ts h.1
 
 -- the text of a file is the one between its ends
-same_text : (a b : List ℕ) → codes "@ IN TXT \"" ++ a ++ codes "\"\n" ≡ codes "@ IN TXT \"" ++ b ++ codes "\"\n" → a ≡ b
+pub same_text : (a b : List ℕ) → codes "@ IN TXT \"" ++ a ++ codes "\"\n" ≡ codes "@ IN TXT \"" ++ b ++ codes "\"\n" → a ≡ b
 same_text a b e =
     let tails : a ++ codes "\"\n" ≡ b ++ codes "\"\n" = ap (λ (t : List ℕ). drop 10 t) e in
     append_cancel_right a b (codes "\"\n") tails

@@ -4,3 +4,5 @@ pub mod DueLemmas
 pub mod EndedLemmas
 pub mod FormLemmas
 pub mod ShortestLemmas
+pub mod DeterminedLemmas
+pub mod SameVerdicts

@@ -1,5 +1,5 @@
 -- The output is a shortest one.
-use Rattle.std.proofs.Common.{◌≡◌, ◌<◌, ◌≤◌, ◌^◌, ℕ, List, length, refl, sym, ◌∙◌, IsTrue}
+use Rattle.std.proofs.Common.{◌≡◌, ℕ, List, refl, sym, ◌∙◌}
 use Rattle.addr_bits.specs.Address.{IsAddress}
 use Rattle.addr_bits.specs.declared.address.Address.{Address}
 use Rattle.addr_bits.specs.declared.address.Address.TheVariants.{V4, V6}
@@ -17,9 +17,9 @@ use Rattle.fewest_terms.proofs.AnswerLemmas.{list-shortest, list-counted, list-p
 use Rattle.fewest_terms.proofs.TableLemmas.{need_rows-good}
 use Rattle.spfc_words.specs.declared.job.Job.{Job}
 use Rattle.spfc_words.specs.declared.job.Job.TheVariants.{Compile}
-use Rattle.spfc_top.specs.Due.{Due, Refuses, Gives}
-use Rattle.spfc_top.specs.Compiled.{fragment_of_one, AreVerdicts, TermsDue, too_big, written, IsShortest}
-use Rattle.spfc_top.specs.Findings.{Contents, FileDue, no_file, not_yet, read, IsDue, IsBest}
+use Rattle.spfc_top.specs.Due.{Refuses, Gives}
+use Rattle.spfc_top.specs.Compiled.{AreVerdicts, TermsDue, too_big, written, IsShortest}
+use Rattle.spfc_top.specs.Findings.{Contents, no_file, not_yet, read, IsDue, IsBest}
 use Rattle.spfc_top.specs.Ends.{Given, IsOutput, IsBestOutput}
 
 refuses_not : {status : ℕ} {line bytes : List ℕ} → Gives bytes ≡ Refuses status line → ⊥

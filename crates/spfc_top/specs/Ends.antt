@@ -82,3 +82,7 @@ pub record IsBestOutput (g : Given) (bytes : List ℕ) : Type 0 where
   pub job : Job
   pub is_job : job_of g.words ≡ Some job
   pub is_best : Tells g job → IsBest job g.held bytes
+
+-- one thing is due at most
+abbrev pub OneIsDue : Type 0
+OneIsDue = (g : Given) (x y : Due) → WordsDue g x → WordsDue g y → x ≡ y

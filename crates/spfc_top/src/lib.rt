@@ -4,11 +4,13 @@
 mod answer;
 mod compile;
 mod form;
+mod laws;
 mod text;
 mod top;
 mod verdicts;
 mod writing;
 
+pub use laws::one_is_due;
 pub use top::run;
 
 #[cfg(test)]

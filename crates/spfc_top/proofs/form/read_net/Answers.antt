@@ -1,4 +1,3 @@
-use Rattle.std.proofs.Common.{◌≡◌, codes, rules, arith, false, true}
 use Rattle.spfc_top.proofs.FormLemmas.{no_net, differs}
 use Rattle.spfc_top.proofs.form.read_net.Goals as goal
 

@@ -1,4 +1,4 @@
-use Rattle.std.proofs.Common.{◌≡◌, ◌++◌, ◌∷◌, [], ℕ, List, length, take, codes, arith, ap, ◌∙◌, drop, ◌-◌}
+use Rattle.std.proofs.Common.{◌≡◌, ◌++◌, ℕ, List, length, codes, ap, ◌∙◌, ◌-◌}
 use Rattle.spfc_top.proofs.FormLemmas.{begins, ends}
 use Rattle.spfc_top.proofs.form.record_text.Goals as goal
 

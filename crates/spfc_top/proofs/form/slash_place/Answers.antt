@@ -1,4 +1,4 @@
-use Rattle.std.proofs.Common.{rules, arith, sym, tests, ◌==◌, ℕ, length, ◌≡◌, ◌<◌, get_or, true, false}
+use Rattle.std.proofs.Common.{rules, arith, sym, tests, ◌==◌, length, ◌≡◌}
 use Rattle.std.proofs.lemmas.List.Sums.{position_or_len_is}
 use Rattle.spfc_top.proofs.form.slash_place.Goals as goal
 
