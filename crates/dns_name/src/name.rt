@@ -9,6 +9,7 @@ use crate::label::{
 use crate::printed::{read_label, write_label};
 use arrayvec::ArrayVec;
 use std::alloc::{AllocError, Global};
+use std::hash::{Hash, Hasher};
 use std::marker::Model;
 
 /// A domain name: its wire form (RFC 1035, section 3.1), with ASCII letters in lower case.
@@ -53,6 +54,22 @@ impl Eq for Name {
     ghost use Rattle.std.specs.Cmp.Lexicographic.{lists_equiv, nat_list_eq_equiv};
 
     ghost laws = { lists_equiv nat_list_eq_equiv };
+}
+
+/// The octets on the wire are hashed.
+impl Hash for Name {
+    ghost use Rattle.std.specs.Hash as fed;
+    ghost use Rattle.dns_name.specs.Wire.{wire_form};
+    ghost use Rattle.std.specs.Cmp.Lexicographic.{pointwise_decides, bytes_decides};
+    ghost use Rattle.std.specs.Hash.{same_Alike};
+
+    ghost hash_input = { λ name. fed.slice fed.u8 (wire_form name) };
+
+    ghost respects_eq = { (same_Alike (λ name. fed.slice fed.u8 (wire_form name)) (pointwise_decides bytes_decides)).fed };
+
+    fn hash<H: Hasher>(&self, state: &mut H) {
+        self.wire.hash(state);
+    }
 }
 
 /// A clone is the same name, and cannot fail.
