@@ -54,8 +54,8 @@ pub best_of : {g : Given} {faults_before faults_after : ℕ} {last_fault : Optio
     {out_before out_after : Option (List ℕ)} {out_faults_before out_faults_after sure_out : ℕ} {same_out : Type 0}
     {err_before err_after : Option (List ℕ)} {err_faults_before err_faults_after sure_err : ℕ} {same_err : Type 0}
     {result : ℕ} → Ended g faults_before faults_after last_fault sure_files out_before out_after out_faults_before out_faults_after sure_out same_out err_before err_after err_faults_before err_faults_after sure_err same_err result → result ≡ 0 →
-    (bytes : List ℕ) × IsBestOutput g bytes × Appends out_before out_after bytes
-best_of (done bytes is a b c) zero_is = (bytes, best_output _ bytes a, b)
+    (bytes : List ℕ) × IsOutput g bytes × IsBestOutput g bytes × Appends out_before out_after bytes
+best_of (done bytes is a b c) zero_is = (bytes, a, best_output _ bytes a, b)
 best_of (found line is a b c) zero_is = absurd (not_zero is zero_is)
 best_of (no_job line is a b c) zero_is = absurd (omega arith)
 best_of (faulty line is a b c d) zero_is = absurd (omega arith)

@@ -34,8 +34,9 @@ pub fn run<F: Files, K: Sink, E: Sink>(
     ensures done { result ≡ 0 → (bytes : List ℕ) × IsOutput (given words.now (F.told files.old) (F.held files.old)) bytes
         × Appends (K.bytes out.old) (K.bytes out.new) bytes × (err.new ≡ err.old) }
 
-    // What was written is the best that the job can have: of `compile`, a shortest list with the verdicts of the record.
-    ensures best { result ≡ 0 → (bytes : List ℕ) × IsBestOutput (given words.now (F.told files.old) (F.held files.old)) bytes
+    // That output is the best that the job can have: of `compile`, a shortest list with the verdicts of the record.
+    ensures best { result ≡ 0 → (bytes : List ℕ) × IsOutput (given words.now (F.told files.old) (F.held files.old)) bytes
+        × IsBestOutput (given words.now (F.told files.old) (F.held files.old)) bytes
         × Appends (K.bytes out.old) (K.bytes out.new) bytes }
 
     // 1, 2, 3 and 8: the words give a job, it is refused so, and `err` gained the line.
