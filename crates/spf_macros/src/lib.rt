@@ -8,6 +8,8 @@ mod letter;
 mod parts;
 mod piece;
 mod read;
+#[cfg(test)]
+mod tests;
 mod toplabel;
 mod transformers;
 mod words;
