@@ -1,12 +1,12 @@
 -- The next entry of whole bytes, from what a cutter answers.
-use Rattle.std.proofs.Common.{◌≡◌, ◌≢◌, ℕ, ◌+◌, ◌-◌, ◌^◌, ◌<◌, ◌≤◌, min, List, [], ◌∷◌, ◌++◌, length, filter, take, drop, get_or, suc, take-append-drop, length-drop, Option, Some, None, refl, sym, ap, subst, ◌∙◌, append_assoc, append-nil, arith, length-append}
+use Rattle.std.proofs.Common.{◌≡◌, ℕ, ◌+◌, ◌-◌, ◌^◌, ◌<◌, ◌≤◌, List, [], ◌∷◌, ◌++◌, length, take, drop, get_or, suc, take-append-drop, length-drop, Option, Some, None, sym, ap, subst, ◌∙◌, append_assoc, arith, length-append}
 use Rattle.std.specs.Prelude.{option_to_list, MatchOption, IfSome}
 use Rattle.master_lex.specs.declared.entry.Entry.{Entry}
 use Rattle.master_lex.specs.declared.fault.LexKind.{LexKind}
 use Rattle.master_lex.specs.declared.fault.LexFault.{LexFault}
 use Rattle.master_lex.specs.declared.fault.LexFault.TheVariants.{Bad, Memory}
 use Rattle.master_lex.specs.Items.{is_feed}
-use Rattle.master_lex.specs.Entries.{AreEntries, has_token, lines_in}
+use Rattle.master_lex.specs.Entries.{AreEntries, lines_in}
 use Rattle.master_lex.specs.File.{IsNext, IsNoneLeft, IsNextBroken}
 use Rattle.master_lex.specs.Pieces.{Kept, StandsFor, IsBrokenAt, IsDecidedAt, Closes, EndsWith, AreAll, FaultIs}
 use Rattle.std.proofs.Math.Seq.{drop-cons, drop-length, take_all}

@@ -1,21 +1,19 @@
 -- A machine that takes an entry byte by byte. Items lead it from state to state, so that a text has one reading at most.
-use Rattle.std.proofs.Common.{◌≡◌, ℕ, zero, suc, ◌+◌, ◌-◌, ◌*◌, ◌/◌, ◌%◌, ◌<◌, Bool, true, false, cond, not, ◌&&◌, List, [], ◌∷◌, ◌++◌, map, refl, sym, ap, ◌∙◌, append_assoc, append-nil, arith, nat_le, ◌==◌, true≢false, le-leb, ltb-true}
-use Rattle.std.specs.Prelude.{if◌then◌else◌}
+use Rattle.std.proofs.Common.{◌≡◌, ℕ, zero, suc, ◌+◌, ◌/◌, ◌%◌, ◌<◌, Bool, true, false, cond, not, ◌&&◌, List, [], ◌∷◌, ◌++◌, map, refl, sym, ap, ◌∙◌, append_assoc, append-nil, arith, nat_le, ◌==◌, true≢false, le-leb, ltb-true}
 use Rattle.std.specs.List.{list_all}
 use Rattle.std.specs.Char.{is_ascii_digit}
 use Rattle.master_lex.specs.declared.entry.Octet.{Octet}
 use Rattle.master_lex.specs.declared.entry.Token.{Token}
 use Rattle.master_lex.specs.declared.fault.LexKind.{LexKind}
-use Rattle.master_lex.specs.declared.fault.LexKind.TheVariants.{OpenQuote, OpenParen, StrayParen, BadEscape}
-use Rattle.master_lex.specs.declared.part.Escape.{Escape}
+use Rattle.master_lex.specs.declared.fault.LexKind.TheVariants.{OpenQuote, OpenParen, BadEscape}
 use Rattle.master_lex.specs.declared.part.Escape.TheVariants.{Unescaped, Slash, OneDigit, TwoDigits}
 use Rattle.master_lex.specs.declared.part.Part.{Part}
 use Rattle.master_lex.specs.declared.part.Part.TheVariants.{Outside, InComment, InToken}
 use Rattle.master_lex.specs.declared.part.Step.{Step}
 use Rattle.master_lex.specs.declared.part.Step.TheVariants.{Goes, Closes, Fails}
-use Rattle.master_lex.specs.Steps.{with_token, at_feed, at_closing, at_mark, value_of, step}
+use Rattle.master_lex.specs.Steps.{with_token, value_of, step}
 use Rattle.master_lex.specs.Pieces.{may_stand}
-use Rattle.master_lex.specs.Items.{Glyph, bare, marked, numbered, glyph_text, glyphs_text, octet_of, is_escape, is_plain_glyph, is_quoted_glyph, is_blank, is_feed}
+use Rattle.master_lex.specs.Items.{Glyph, bare, marked, numbered, glyph_text, glyphs_text, octet_of, is_escape, is_plain_glyph, is_quoted_glyph, is_feed}
 
 -- the entry's tokens and the bytes behind it, or its fault, or neither yet
 pub data Outcome : Type 0 where

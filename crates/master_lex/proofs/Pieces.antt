@@ -1,6 +1,6 @@
 -- What is kept, byte by byte.
 use Rattle.std.proofs.Common.{◌≡◌, ◌≢◌, ℕ, zero, suc, ◌+◌, ◌-◌, ◌^◌, ◌<◌, ◌≤◌, min, Bool, true, false, cond, not, ◌&&◌, List, [], ◌∷◌, ◌++◌, length, filter, Option, Some, None, Ok, Err, refl, sym, ap, ap₂, subst, ◌∙◌, append_assoc, append-nil, inl, inr, ◌⊎◌, arith, true≢false, length-append}
-use Rattle.std.specs.Prelude.{count_by, sum_by, unwrap_or, option_to_list, IsTrue, IfSome}
+use Rattle.std.specs.Prelude.{sum_by, unwrap_or, option_to_list, IsTrue, IfSome}
 use Rattle.std.proofs.lemmas.List.Sums.{sum_by-append}
 use Rattle.std.proofs.lemmas.List.Elements.{filter-append}
 use Rattle.master_lex.specs.declared.entry.Token.{Token}
@@ -13,7 +13,7 @@ use Rattle.master_lex.specs.declared.part.Part.TheVariants.{Outside, InComment, 
 use Rattle.master_lex.specs.declared.part.Step.{Step}
 use Rattle.master_lex.specs.declared.part.Step.TheVariants.{Goes, Closes, Fails}
 use Rattle.master_lex.specs.Steps.{step, line_behind, given_of, with_token, end_of}
-use Rattle.master_lex.specs.Items.{Item, blank, comment, opening, closing, feed, plain, quoted, items_text, tokens_of, depth_after, depth_behind, is_blank, is_feed, may_precede, item_text, glyphs_text}
+use Rattle.master_lex.specs.Items.{Item, blank, comment, opening, closing, feed, plain, quoted, items_text, tokens_of, depth_after, depth_behind, is_blank, is_feed, item_text, glyphs_text}
 use Rattle.master_lex.specs.Entries.{Spells, AreEntries, has_token, lines_in, starts_blank}
 use Rattle.master_lex.specs.Broken.{ends_in_comment, IsBroken, IsDecided}
 use Rattle.master_lex.specs.Pieces.{ends_in_plain, AreDone, opening_text, escape_text, ComesTo, Kept, lead_of, line_number, StandsFor, IsBrokenAt, IsDecidedAt, Closes as Closed, EndsWith, AreAll}

@@ -1,7 +1,7 @@
 -- The machine comes to the part that is kept, and to each decided fault.
-use Rattle.std.proofs.Common.{◌≡◌, ◌≢◌, ℕ, zero, suc, ◌+◌, ◌<◌, ◌≤◌, Bool, true, false, cond, not, ◌&&◌, ◌||◌, ◌==◌, List, [], ◌∷◌, ◌++◌, map, length, drop, refl, sym, ap, ap₂, subst, ◌∙◌, append_assoc, append-nil, inl, inr, ◌⊎◌, arith, nat_lt, true≢false, length-append, lt-ltb, ltb-true, ◌/◌, ◌%◌}
+use Rattle.std.proofs.Common.{◌≡◌, ◌≢◌, ℕ, ◌+◌, ◌<◌, Bool, true, false, cond, ◌&&◌, ◌||◌, ◌==◌, List, [], ◌∷◌, ◌++◌, map, length, drop, refl, sym, ap, ap₂, subst, ◌∙◌, append_assoc, append-nil, inl, inr, ◌⊎◌, arith, nat_lt, true≢false, length-append, lt-ltb, ltb-true, ◌/◌, ◌%◌}
 use Rattle.std.proofs.Math.Seq.{drop-append-add}
-use Rattle.std.specs.List.{list_all, list_any, prefix_len}
+use Rattle.std.specs.List.{list_all}
 use Rattle.std.specs.Char.{is_ascii_digit}
 use Rattle.master_lex.specs.declared.entry.Octet.{Octet}
 use Rattle.master_lex.specs.declared.entry.Token.{Token}
@@ -12,13 +12,13 @@ use Rattle.master_lex.specs.declared.part.Escape.{Escape}
 use Rattle.master_lex.specs.declared.part.Escape.TheVariants.{Unescaped, Slash, OneDigit, TwoDigits}
 use Rattle.master_lex.specs.declared.part.Part.{Part}
 use Rattle.master_lex.specs.declared.part.Part.TheVariants.{Outside, InComment, InToken}
-use Rattle.master_lex.specs.declared.part.Step.TheVariants.{Goes, Closes, Fails}
+use Rattle.master_lex.specs.declared.part.Step.TheVariants.{Fails}
 use Rattle.master_lex.specs.Steps.{step, value_of}
-use Rattle.master_lex.specs.Items.{Glyph, bare, marked, numbered, glyphs_text, octet_of, is_escape, is_plain_glyph, is_feed, Item, blank, comment, opening, closing, feed, plain, quoted, items_text, tokens_of, is_item}
+use Rattle.master_lex.specs.Items.{Glyph, bare, marked, numbered, glyphs_text, octet_of, is_escape, is_plain_glyph, Item, blank, comment, opening, closing, feed, plain, quoted, items_text}
 use Rattle.master_lex.specs.Entries.{Spells}
 use Rattle.master_lex.specs.Broken.{IsBroken, IsDecided, IsInQuotes, IsOutside, IsLineEnd, NoEscape, is_judged, ends_in_comment}
-use Rattle.master_lex.specs.Pieces.{ends_in_plain, AreDone, may_stand, opening_text, escape_text, HasBegun, ComesTo}
-use Rattle.master_lex.proofs.Machine.{Outcome, closed, broken, alive, run, run_go, run_fails, glyphs_run, when, unless, at_slash, at_first, at_second}
+use Rattle.master_lex.specs.Pieces.{ends_in_plain, AreDone, escape_text, HasBegun, ComesTo}
+use Rattle.master_lex.proofs.Machine.{Outcome, closed, broken, alive, run, run_go, run_fails, glyphs_run, unless, at_slash, at_first, at_second}
 use Rattle.master_lex.proofs.Standing.{judged_first, judged_second, judged_third, is_digit}
 use Rattle.master_lex.proofs.Readings.{Good, still, good_still, EndsPlain, Ends, ends_at_feed, ends_at_end, items_run, plain_runs, comment_runs, outside_runs, quotes_run, no_mark, no_number}
 

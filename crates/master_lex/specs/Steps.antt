@@ -1,11 +1,10 @@
 -- What a byte does to an open entry. The private functions answer it, and no public contract cites it: proofs/ shows that it is what the definitions say.
-use Rattle.std.specs.Prelude.{◌≡◌, ℕ, zero, suc, ◌+◌, ◌-◌, ◌*◌, Bool, true, false, ◌&&◌, List, [], ◌∷◌, ◌++◌, ◌==◌, if◌then◌else◌, min, ◌^◌, Option, Some, None, Result, Ok, Err}
+use Rattle.std.specs.Prelude.{ℕ, zero, suc, ◌+◌, ◌-◌, ◌*◌, Bool, true, false, ◌&&◌, List, [], ◌∷◌, ◌++◌, ◌==◌, if◌then◌else◌, min, ◌^◌, Option, Some, None, Result, Ok, Err}
 use Rattle.std.specs.Char.{is_ascii_digit}
 use Rattle.master_lex.specs.declared.entry.Octet.{Octet}
 use Rattle.master_lex.specs.declared.entry.Token.{Token}
 use Rattle.master_lex.specs.declared.fault.LexKind.{LexKind}
 use Rattle.master_lex.specs.declared.fault.LexKind.TheVariants.{OpenQuote, OpenParen, StrayParen, BadEscape}
-use Rattle.master_lex.specs.declared.part.Escape.{Escape}
 use Rattle.master_lex.specs.declared.part.Escape.TheVariants.{Unescaped, Slash, OneDigit, TwoDigits}
 use Rattle.master_lex.specs.declared.part.Part.{Part}
 use Rattle.master_lex.specs.declared.part.Part.TheVariants.{Outside, InComment, InToken}
@@ -13,7 +12,7 @@ use Rattle.master_lex.specs.declared.part.Step.{Step}
 use Rattle.master_lex.specs.declared.part.Step.TheVariants.{Goes, Closes, Fails}
 use Rattle.master_lex.specs.declared.entry.Entry.{Entry}
 use Rattle.master_lex.specs.Entries.{has_token}
-use Rattle.master_lex.specs.Items.{Glyph, bare, marked, numbered, octet_of, is_escape, is_plain_glyph, is_quoted_glyph, is_blank, is_feed}
+use Rattle.master_lex.specs.Items.{bare, marked, numbered, octet_of, is_escape, is_plain_glyph, is_quoted_glyph, is_blank, is_feed}
 
 abbrev pub with_token : List Token → Bool → List Octet → List Token
 with_token tokens quoted units = tokens ++ record { units = units; quoted = quoted } ∷ []

@@ -1,4 +1,4 @@
-use Rattle.std.proofs.Common.{◌≡◌, ℕ, ◌+◌, ◌-◌, ◌<◌, ◌^◌, [], List, Option, length, take, drop, get_or, subst, sym, ap, ◌∙◌, arith, length-take-le}
+use Rattle.std.proofs.Common.{ℕ, ◌+◌, ◌-◌, ◌<◌, ◌^◌, [], List, Option, length, take, drop, get_or, subst, sym, ap, arith, length-take-le}
 use Rattle.std.specs.Prelude.{IfSome, MatchOption}
 use Rattle.std.proofs.Math.Seq.{take_all}
 use Rattle.std.proofs.lemmas.Result.{err_from_is_err_and}

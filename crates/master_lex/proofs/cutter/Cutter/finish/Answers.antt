@@ -1,4 +1,4 @@
-use Rattle.std.proofs.Common.{◌≡◌, ℕ, ◌++◌, List, Option, subst, sym, ap, ◌∙◌}
+use Rattle.std.proofs.Common.{ℕ, ◌++◌, List, Option, subst, sym, ap, ◌∙◌}
 use Rattle.std.specs.Prelude.{option_to_list, IfSome}
 use Rattle.master_lex.specs.Steps.{given_of}
 use Rattle.master_lex.specs.declared.cutter.Cutter.TheInside.{Inside}

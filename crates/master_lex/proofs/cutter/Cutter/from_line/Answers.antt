@@ -1,5 +1,4 @@
-use Rattle.std.proofs.Common.{◌≡◌, [], List, None, subst, sym, w64}
-use Rattle.std.proofs.Math.Facts.{Fits-lt-pow}
+use Rattle.std.proofs.Common.{[], List, None, subst, sym}
 use Rattle.master_lex.specs.declared.entry.Token.{Token}
 use Rattle.master_lex.specs.declared.part.Part.TheVariants.{Outside}
 use Rattle.master_lex.specs.Pieces.{StandsFor}
