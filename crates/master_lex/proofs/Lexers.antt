@@ -1,0 +1,102 @@
+-- The next entry of whole bytes, from what a cutter answers.
+use Rattle.std.proofs.Common.{◌≡◌, ℕ, ◌+◌, ◌-◌, ◌^◌, ◌<◌, ◌≤◌, List, [], ◌∷◌, ◌++◌, length, take, drop, get_or, suc, take-append-drop, length-drop, Option, Some, None, sym, ap, subst, ◌∙◌, append_assoc, arith, length-append}
+use Rattle.std.specs.Prelude.{option_to_list, MatchOption, IfSome}
+use Rattle.master_lex.specs.declared.entry.Entry.{Entry}
+use Rattle.master_lex.specs.declared.fault.LexKind.{LexKind}
+use Rattle.master_lex.specs.declared.fault.LexFault.{LexFault}
+use Rattle.master_lex.specs.declared.fault.LexFault.TheVariants.{Bad, Memory}
+use Rattle.master_lex.specs.Items.{is_feed}
+use Rattle.master_lex.specs.Entries.{AreEntries, lines_in}
+use Rattle.master_lex.specs.File.{IsNext, IsNoneLeft, IsNextBroken}
+use Rattle.master_lex.specs.Pieces.{Kept, StandsFor, IsBrokenAt, IsDecidedAt, Closes, EndsWith, AreAll, FaultIs}
+use Rattle.std.proofs.Math.Seq.{drop-cons, drop-length, take_all}
+use Rattle.std.proofs.lemmas.List.Sums.{count_by-le-length}
+use Rattle.master_lex.proofs.Order.{entries_left, entries_rise, entries_more}
+use Rattle.master_lex.proofs.Reach.{broken_more}
+use Rattle.master_lex.proofs.Pieces.{decided_some}
+
+-- an entry that a byte closes is the next one
+pub record Follows (line : ℕ) (bytes : List ℕ) (entry : Entry) (number : ℕ) (behind : List ℕ) : Type 0 where
+  pub next : IsNext line bytes entry number behind
+  pub counted : 0 < number
+  pub few : number + length behind ≤ 2 ^ 63
+
+pub next_from_closes : (line : ℕ) (bytes taken behind : List ℕ) (b : ℕ) (entry : Entry) (number : ℕ) → Closes line taken [] b entry number → bytes ≡ taken ++ b ∷ behind → 0 < line → line + length bytes ≤ 2 ^ 63
+    → Follows line bytes entry number behind
+next_from_closes line bytes taken behind b entry number c is counted few = record {
+  next = record { passed = c.before; no_tokens = sym c.with_tokens; token = c.token; in_order = subst (λ (n : ℕ). AreEntries line bytes (c.before ++ entry ∷ []) n behind) (sym exact) in_order };
+  counted = omega (arith, exact, rise);
+  few = omega (arith, exact, left);
+}
+  where
+    in_order : AreEntries line bytes (c.before ++ entry ∷ []) c.last behind
+    in_order = subst (λ (l : List ℕ). AreEntries line l (c.before ++ entry ∷ []) c.last behind) (sym is) (c.in_order behind)
+
+    left : c.last + length behind ≤ line + length bytes
+    left = (entries_left line bytes (c.before ++ entry ∷ []) c.last behind in_order).1
+
+    rise : line ≤ c.last
+    rise = entries_rise line bytes (c.before ++ entry ∷ []) c.last behind in_order
+
+    exact : number ≡ c.last
+    exact = omega (arith, c.number, left, few)
+
+-- an entry that the end closes is the next one
+pub next_from_end : (line : ℕ) (bytes : List ℕ) (entry : Entry) (number : ℕ) → EndsWith line bytes [] entry number → line + length bytes ≤ 2 ^ 63 → IsNext line bytes entry number []
+next_from_end line bytes entry number c few =
+    record { passed = c.before; no_tokens = sym c.with_tokens; token = c.token; in_order = subst (λ (n : ℕ). AreEntries line bytes (c.before ++ entry ∷ []) n []) (sym exact) c.in_order }
+  where
+    exact : number ≡ c.last
+    exact = omega (arith, c.number, (entries_left line bytes (c.before ++ entry ∷ []) c.last [] c.in_order).1, few)
+
+pub none_from_all : (line : ℕ) (bytes : List ℕ) → AreAll line bytes [] → IsNoneLeft line bytes
+none_from_all line bytes a = record { passed = a.entries; no_tokens = sym a.with_tokens; last = a.last; in_order = a.in_order }
+
+-- what the end answers
+pub end_answers : (line : ℕ) (bytes : List ℕ) (here : ℕ) (answer : Option Entry) → AreAll line bytes ([] ++ option_to_list answer) → IfSome answer (λ entry. EndsWith line bytes [] entry here) → line + length bytes ≤ 2 ^ 63
+    → MatchOption answer (IsNoneLeft line bytes) (λ entry. IsNext line bytes entry here [])
+end_answers line bytes here None a e few = none_from_all line bytes a
+end_answers line bytes here (Some entry) a e few = next_from_end line bytes entry here e few
+
+pub here_counted : (line : ℕ) (bytes : List ℕ) (kept : Kept) (given : List Entry) → StandsFor line kept bytes given → line + length bytes ≤ 2 ^ 63 → (0 < kept.here) × (kept.here ≤ 2 ^ 63)
+here_counted line bytes kept given h few =
+    let left = (entries_left line (bytes ++ []) h.entries h.last (h.rest ++ []) (h.closed [])).1 in
+    let rise = entries_rise line (bytes ++ []) h.entries h.last (h.rest ++ []) (h.closed []) in
+    let lines : lines_in h.rest ≤ length h.rest = count_by-le-length is_feed h.rest in
+    (omega (arith, h.here, h.counted, rise), omega (arith, h.here, left, lines, few, length-append bytes [], length-append h.rest []))
+
+-- ---- faults
+
+-- a fault that is decided stays, however the bytes go on
+pub decided_more : (first : ℕ) (bytes more : List ℕ) (given : List Entry) (line : ℕ) (kind : LexKind) → IsDecidedAt first bytes given line kind → IsDecidedAt first (bytes ++ more) given line kind
+decided_more first bytes more given line kind x =
+    let b = broken_more x.rest kind x.place more x.fault x.decided in
+    record { entries = x.entries; rest = x.rest ++ more; place = x.place; in_order = entries_more first bytes x.entries line x.rest more x.in_order (decided_some x.rest kind x.place x.fault x.decided); with_tokens = x.with_tokens; fault = b.0; decided = b.1 }
+
+next_broken : (line : ℕ) (bytes : List ℕ) (broken : ℕ) (kind : LexKind) → IsBrokenAt line bytes [] broken kind → IsNextBroken line bytes broken kind
+next_broken line bytes broken kind x = record { passed = x.entries; no_tokens = sym x.with_tokens; rest = x.rest; place = x.place; in_order = x.in_order; fault = x.fault }
+
+pub fault_at_end : (line : ℕ) (bytes : List ℕ) (fault : LexFault) → FaultIs (IsBrokenAt line bytes []) fault → FaultIs (IsNextBroken line bytes) fault
+fault_at_end line bytes (Bad broken kind) h = next_broken line bytes broken kind h
+fault_at_end line bytes Memory h = tt
+
+pub fault_inside : (line : ℕ) (bytes taken behind : List ℕ) (b : ℕ) (fault : LexFault) → bytes ≡ taken ++ b ∷ behind → FaultIs (IsDecidedAt line (taken ++ b ∷ []) []) fault → FaultIs (IsNextBroken line bytes) fault
+fault_inside line bytes taken behind b (Bad broken kind) is h =
+    let x = decided_more line (taken ++ b ∷ []) behind [] broken kind h in
+    subst (λ (l : List ℕ). IsNextBroken line l broken kind) (append_assoc taken (b ∷ []) behind ∙ sym is)
+    (record { passed = x.entries; no_tokens = sym x.with_tokens; rest = x.rest; place = x.place; in_order = x.in_order; fault = x.fault })
+fault_inside line bytes taken behind b Memory is h = tt
+
+-- ---- where the bytes are cut
+
+pub cut_at : (bytes : List ℕ) (k : ℕ) → k < length bytes → bytes ≡ take k bytes ++ get_or bytes k 0 ∷ drop (k + 1) bytes
+cut_at bytes k h = sym (take-append-drop k bytes) ∙ ap (λ (b : List ℕ). take k bytes ++ b) (drop-cons bytes k 0 h ∙ ap (λ (n : ℕ). get_or bytes k 0 ∷ drop n bytes) next)
+  where
+    next : suc k ≡ k + 1
+    next = omega arith
+
+pub slice_end : (bytes : List ℕ) (k : ℕ) → take (length bytes - k) (drop k bytes) ≡ drop k bytes
+slice_end bytes k = take_all (length bytes - k) (drop k bytes) (omega (arith, length-drop k bytes))
+
+pub slice_none : (bytes : List ℕ) → take (length bytes - length bytes) (drop (length bytes) bytes) ≡ []
+slice_none bytes = slice_end bytes (length bytes) ∙ drop-length bytes

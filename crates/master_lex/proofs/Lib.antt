@@ -1,0 +1,8 @@
+pub mod Machine
+pub mod Readings
+pub mod Standing
+pub mod Examples
+pub mod Order
+pub mod Reach
+pub mod Pieces
+pub mod Lexers
