@@ -5,9 +5,9 @@ use Rattle.bound_table.proofs.tests.needs.Goals as goal
 
 pub returns : goal.returns
 returns c = λ x.
-  elim x as (λ x. number (record { fail = c.from.result; softfail = c.from-2.result; pass = c.from-3.result; neutral = c.from-4.result }) x < 2 ^ 32) [
-  | Fail ↦ omega arith
-  | SoftFail ↦ omega arith
-  | Pass ↦ omega arith
-  | Neutral ↦ omega arith
-]
+    elim x as (λ x. number (record { fail = c.from.result; softfail = c.from-2.result; pass = c.from-3.result; neutral = c.from-4.result }) x < 2 ^ 32) [
+      | Fail ↦ omega arith
+      | SoftFail ↦ omega arith
+      | Pass ↦ omega arith
+      | Neutral ↦ omega arith
+    ]
