@@ -1,19 +1,21 @@
 -- The next entry of whole bytes, from what a cutter answers.
-use Rattle.std.proofs.Common.{◌≡◌, ℕ, ◌+◌, ◌-◌, ◌^◌, ◌<◌, ◌≤◌, List, [], ◌∷◌, ◌++◌, length, take, drop, get_or, suc, take-append-drop, length-drop, Option, Some, None, sym, ap, subst, ◌∙◌, append_assoc, arith, length-append}
-use Rattle.std.specs.Prelude.{option_to_list, MatchOption, IfSome}
+use Rattle.std.proofs.Common.{◌≡◌, ℕ, ◌+◌, ◌-◌, ◌^◌, ◌<◌, ◌≤◌, List, [], ◌∷◌, ◌++◌, length, take, drop, get_or, suc, take-append-drop, length-drop, Option, Some, None, sym, ap, subst, ◌∙◌, append_assoc, arith, length-append, refl, filter, ap₂, append-nil, cond, inl, inr, ◌⊎◌}
+use Rattle.std.specs.Prelude.{option_to_list, MatchOption, IfSome, IsTrue}
 use Rattle.master_lex.specs.declared.entry.Entry.{Entry}
 use Rattle.master_lex.specs.declared.fault.LexKind.{LexKind}
 use Rattle.master_lex.specs.declared.fault.LexFault.{LexFault}
 use Rattle.master_lex.specs.declared.fault.LexFault.TheVariants.{Bad, Memory}
 use Rattle.master_lex.specs.Items.{is_feed}
-use Rattle.master_lex.specs.Entries.{AreEntries, lines_in}
+use Rattle.master_lex.specs.Entries.{AreEntries, lines_in, has_token}
 use Rattle.master_lex.specs.File.{IsNext, IsNoneLeft, IsNextBroken}
 use Rattle.master_lex.specs.Pieces.{Kept, StandsFor, IsBrokenAt, IsDecidedAt, Closes, EndsWith, AreAll, FaultIs}
 use Rattle.std.proofs.Math.Seq.{drop-cons, drop-length, take_all}
 use Rattle.std.proofs.lemmas.List.Sums.{count_by-le-length}
-use Rattle.master_lex.proofs.Order.{entries_left, entries_rise, entries_more}
+use Rattle.master_lex.proofs.Order.{entries_left, entries_rise, entries_more, spelled_some, compared}
 use Rattle.master_lex.proofs.Reach.{broken_more}
-use Rattle.master_lex.proofs.Pieces.{decided_some}
+use Rattle.master_lex.proofs.Pieces.{decided_some, none_broken}
+use Rattle.master_lex.proofs.Readings.{not_both}
+use Rattle.std.proofs.lemmas.List.Elements.{filter-append}
 
 -- an entry that a byte closes is the next one
 pub record Follows (line : ℕ) (bytes : List ℕ) (entry : Entry) (number : ℕ) (behind : List ℕ) : Type 0 where
@@ -100,3 +102,87 @@ slice_end bytes k = take_all (length bytes - k) (drop k bytes) (omega (arith, le
 
 pub slice_none : (bytes : List ℕ) → take (length bytes - length bytes) (drop (length bytes) bytes) ≡ []
 slice_none bytes = slice_end bytes (length bytes) ∙ drop-length bytes
+
+-- ---- one answer
+
+filter_front : (front more : List Entry) → filter has_token (front ++ more) ≡ [] → (filter has_token front ≡ []) × (filter has_token more ≡ [])
+filter_front front more h = by (filter has_token front) (filter has_token more) (sym (filter-append has_token front more) ∙ h)
+  where
+    by : (a b : List Entry) → a ++ b ≡ [] → (a ≡ []) × (b ≡ [])
+    by [] b e = (refl, e)
+    by (x ∷ a) b e = absurd cc
+
+-- an entry with a token is not passed over
+passed_not : (passed : List Entry) (entry : Entry) (more : List Entry) → IsTrue (has_token entry) → filter has_token ((passed ++ entry ∷ []) ++ more) ≡ [] → ⊥
+passed_not passed entry more token h =
+    let last = (filter_front passed (entry ∷ []) (filter_front (passed ++ entry ∷ []) more h).0).1 in
+    let none : entry ∷ [] ≡ [] = sym (ap (λ t. cond t (entry ∷ []) []) token) ∙ last in
+    absurd cc
+
+front_none : (a b : List ℕ) → a ++ b ≡ [] → a ≡ []
+front_none [] b e = refl
+front_none (x ∷ a) b e = absurd cc
+
+-- no entry is next where one is broken
+pub next_not_broken : (line : ℕ) (bytes : List ℕ) (entry : Entry) (number : ℕ) (behind : List ℕ) (broken : ℕ) (kind : LexKind) → IsNext line bytes entry number behind → ¬ IsNextBroken line bytes broken kind
+next_not_broken line bytes entry number behind broken kind n x = by (compared line bytes (n.passed ++ entry ∷ []) number behind x.passed broken x.rest n.in_order x.in_order)
+  where
+    after : (more : List Entry) → n.passed ++ entry ∷ [] ≡ x.passed ++ more → AreEntries broken x.rest more number behind → ⊥
+    after [] e m = passed_not n.passed entry [] n.token (ap (filter has_token) (append-nil (n.passed ++ entry ∷ []) ∙ e ∙ append-nil x.passed) ∙ x.no_tokens)
+    after (next ∷ more) e m = not_both m.0 m.1 x.rest next kind x.place m.3 m.2 x.fault
+
+    by : (((more : List Entry) × (x.passed ≡ (n.passed ++ entry ∷ []) ++ more) × AreEntries number behind more broken x.rest) ⊎ ((more : List Entry) × (n.passed ++ entry ∷ [] ≡ x.passed ++ more) × AreEntries broken x.rest more number behind)) → ⊥
+    by (inl m) = passed_not n.passed entry m.0 n.token (ap (filter has_token) (sym m.1) ∙ x.no_tokens)
+    by (inr m) = after m.0 m.1 m.2
+
+-- one is left where one is next
+pub next_not_none : (line : ℕ) (bytes : List ℕ) (entry : Entry) (number : ℕ) (behind : List ℕ) → IsNext line bytes entry number behind → ¬ IsNoneLeft line bytes
+next_not_none line bytes entry number behind n x = by (compared line bytes (n.passed ++ entry ∷ []) number behind x.passed x.last [] n.in_order x.in_order)
+  where
+    after : (more : List Entry) → n.passed ++ entry ∷ [] ≡ x.passed ++ more → AreEntries x.last [] more number behind → ⊥
+    after [] e m = passed_not n.passed entry [] n.token (ap (filter has_token) (append-nil (n.passed ++ entry ∷ []) ∙ e ∙ append-nil x.passed) ∙ x.no_tokens)
+    after (next ∷ more) e m = spelled_some m.0 m.1 next m.3 (front_none m.0 m.1 (sym m.2))
+
+    by : (((more : List Entry) × (x.passed ≡ (n.passed ++ entry ∷ []) ++ more) × AreEntries number behind more x.last []) ⊎ ((more : List Entry) × (n.passed ++ entry ∷ [] ≡ x.passed ++ more) × AreEntries x.last [] more number behind)) → ⊥
+    by (inl m) = passed_not n.passed entry m.0 n.token (ap (filter has_token) (sym m.1) ∙ x.no_tokens)
+    by (inr m) = after m.0 m.1 m.2
+
+-- none is left where one is broken
+pub none_not_broken : (line : ℕ) (bytes : List ℕ) (broken : ℕ) (kind : LexKind) → IsNoneLeft line bytes → ¬ IsNextBroken line bytes broken kind
+none_not_broken line bytes broken kind a x =
+    none_broken line bytes [] (record { entries = a.passed; last = a.last; in_order = a.in_order; with_tokens = sym a.no_tokens }) [] broken kind
+    (record { entries = x.passed; rest = x.rest; place = x.place; in_order = x.in_order; with_tokens = sym x.no_tokens; fault = x.fault })
+
+some_end : (a : List Entry) (x : Entry) (more : List Entry) → [] ≡ a ++ x ∷ more → ⊥
+some_end [] x more e = cc
+some_end (y ∷ a) x more e = cc
+
+last_is : (a b : List Entry) (x y : Entry) → a ++ x ∷ [] ≡ b ++ y ∷ [] → x ≡ y
+last_is [] [] x y e = cc
+last_is [] (z ∷ b) x y e = let rest : [] ≡ b ++ y ∷ [] = cc in absurd (some_end b y [] rest)
+last_is (z ∷ a) [] x y e = let rest : [] ≡ a ++ x ∷ [] = cc in absurd (some_end a x [] rest)
+last_is (z ∷ a) (w ∷ b) x y e = let rest : a ++ x ∷ [] ≡ b ++ y ∷ [] = cc in last_is a b x y rest
+
+within : (a b : List Entry) (y z : Entry) (more : List Entry) → a ++ y ∷ [] ≡ b ++ z ∷ more → (c : List Entry) × (a ≡ b ++ c)
+within a [] y z more e = (a, refl)
+within [] (w ∷ b) y z more e = let rest : [] ≡ b ++ z ∷ more = cc in absurd (some_end b z more rest)
+within (v ∷ a) (w ∷ b) y z more e =
+    let first : v ≡ w = cc in
+    let rest : a ++ y ∷ [] ≡ b ++ z ∷ more = cc in
+    let m = within a b y z more rest in (m.0, ap₂ (λ (x : Entry) (l : List Entry). x ∷ l) first m.1)
+
+-- one entry is next
+pub one_next : (line : ℕ) (bytes : List ℕ) (entry other : Entry) (number number' : ℕ) (behind behind' : List ℕ) → IsNext line bytes entry number behind → IsNext line bytes other number' behind' → (entry ≡ other) × (number ≡ number') × (behind ≡ behind')
+one_next line bytes entry other number number' behind behind' n x = by (compared line bytes (n.passed ++ entry ∷ []) number behind (x.passed ++ other ∷ []) number' behind' n.in_order x.in_order)
+  where
+    later : (more : List Entry) → x.passed ++ other ∷ [] ≡ (n.passed ++ entry ∷ []) ++ more → AreEntries number behind more number' behind' → (entry ≡ other) × (number ≡ number') × (behind ≡ behind')
+    later [] e m = (last_is n.passed x.passed entry other (sym (e ∙ append-nil (n.passed ++ entry ∷ []))), m.0, m.1)
+    later (next ∷ more) e m = let w = within x.passed (n.passed ++ entry ∷ []) other next more e in absurd (passed_not n.passed entry w.0 n.token (ap (filter has_token) (sym w.1) ∙ x.no_tokens))
+
+    earlier : (more : List Entry) → n.passed ++ entry ∷ [] ≡ (x.passed ++ other ∷ []) ++ more → AreEntries number' behind' more number behind → (entry ≡ other) × (number ≡ number') × (behind ≡ behind')
+    earlier [] e m = (sym (last_is x.passed n.passed other entry (sym (e ∙ append-nil (x.passed ++ other ∷ [])))), sym m.0, sym m.1)
+    earlier (next ∷ more) e m = let w = within n.passed (x.passed ++ other ∷ []) entry next more e in absurd (passed_not x.passed other w.0 x.token (ap (filter has_token) (sym w.1) ∙ n.no_tokens))
+
+    by : (((more : List Entry) × (x.passed ++ other ∷ [] ≡ (n.passed ++ entry ∷ []) ++ more) × AreEntries number behind more number' behind') ⊎ ((more : List Entry) × (n.passed ++ entry ∷ [] ≡ (x.passed ++ other ∷ []) ++ more) × AreEntries number' behind' more number behind)) → (entry ≡ other) × (number ≡ number') × (behind ≡ behind')
+    by (inl m) = later m.0 m.1 m.2
+    by (inr m) = earlier m.0 m.1 m.2
