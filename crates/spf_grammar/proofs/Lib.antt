@@ -1,1 +1,4 @@
 pub mod FirstLemmas
+pub mod OneTail
+pub mod OnePolicy
+pub mod WrittenForm

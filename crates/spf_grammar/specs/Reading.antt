@@ -1,0 +1,1 @@
+-- What readers of SPF records answer.
