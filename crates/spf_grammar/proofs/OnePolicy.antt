@@ -26,19 +26,13 @@ use Rattle.spf_grammar.specs.declared.policy.Term.{Term}
 use Rattle.spf_grammar.specs.declared.policy.Term.TheVariants.{Directive, Redirect, Exp, Unknown}
 use Rattle.spf_grammar.specs.Grammar.{SaysWord, SpellsLen, SpellsTarget, SpellsHosts, SpellsNetwork, SpellsMechanism, SpellsQualifier, SpellsTerm, SpellsTerms, is_name, is_name_byte, is_space}
 use Rattle.spf_grammar.specs.Laws.{OnePolicy}
+use Rattle.spf_grammar.specs.Reading.{is_len_byte, IsSlashed, BehindMechanism, is_mark, no_space, IsWord}
 use Rattle.spf_macros.specs.Reading.{Pauses}
 use Rattle.spf_macros.proofs.DomainSpecs.{spec_spelled}
 use Rattle.spf_macros.proofs.Spans.{one_span}
-use Rattle.spf_grammar.proofs.OneTail.{weaker, keeps_out, all_both, IsSlashed, slashed, is_len_byte, lens_bytes, one_spec, one_target, one_hosts, one_network}
+use Rattle.spf_grammar.proofs.OneTail.{weaker, keeps_out, all_both, slashed, lens_bytes, one_spec, one_target, one_hosts, one_network}
 
 -- ---- bytes of names
-
-abbrev pub no_space : ℕ → Bool
-no_space b = not (b == 32)
-
--- a qualifier
-abbrev is_mark : ℕ → Bool
-is_mark b = list_any (λ x. b == x) (codes "+-~?")
 
 -- what holds of the lower case of a byte holds of it, where it holds of the upper-case letters
 lower_back : (p : ℕ → Bool) → ((b : ℕ) → 65 ≤ b → b < 91 → p b ≡ true) → (b : ℕ) → p (to_ascii_lowercase b) ≡ true → p b ≡ true
@@ -58,10 +52,10 @@ upper_letter b low high = or_left _ _ (and_from (nat_le 65 b) (nat_le b 90) (le-
 upper_name : (b : ℕ) → 65 ≤ b → b < 91 → is_name_byte b ≡ true
 upper_name b low high = or_left _ _ (or_left _ _ (upper_letter b low high))
 
-upper_no_space : (b : ℕ) → 65 ≤ b → b < 91 → no_space b ≡ true
+pub upper_no_space : (b : ℕ) → 65 ≤ b → b < 91 → no_space b ≡ true
 upper_no_space b low high = keeps_out is_ascii_alphabetic 32 refl b (upper_letter b low high)
 
-lower_all : (p : ℕ → Bool) → ((b : ℕ) → 65 ≤ b → b < 91 → p b ≡ true) → (bs : List ℕ) → list_all p (str_to_ascii_lowercase bs) ≡ true → list_all p bs ≡ true
+pub lower_all : (p : ℕ → Bool) → ((b : ℕ) → 65 ≤ b → b < 91 → p b ≡ true) → (bs : List ℕ) → list_all p (str_to_ascii_lowercase bs) ≡ true → list_all p bs ≡ true
 lower_all p upper [] h = refl
 lower_all p upper (b ∷ bs) h = let split = and_parts (p (to_ascii_lowercase b)) (list_all p (str_to_ascii_lowercase bs)) h in
     and_from (p b) (list_all p bs) (lower_back p upper b split.0) (lower_all p upper bs split.1)
@@ -71,7 +65,7 @@ lower_head : (bs : List ℕ) → is_ascii_alphabetic (head_or 0 (str_to_ascii_lo
 lower_head [] h = h
 lower_head (b ∷ bs) h = lower_back is_ascii_alphabetic upper_letter b h
 
-mark_no_letter : (b : ℕ) → is_mark b ≡ true → is_ascii_alphabetic b ≡ true → ⊥
+pub mark_no_letter : (b : ℕ) → is_mark b ≡ true → is_ascii_alphabetic b ≡ true → ⊥
 mark_no_letter b h letter =
     let at : (c : ℕ) → is_ascii_alphabetic c ≡ false → (b == c) ≡ true → ⊥ =
     λ c no_letter e. both_ways (is_ascii_alphabetic c) no_letter (subst (λ x. is_ascii_alphabetic x ≡ true) (eqb-true b c e) letter) in
@@ -129,7 +123,7 @@ one_view text mark name rest mark' name' rest' s u = by_marks s.marks u.marks
         let same = ap (λ m. m ++ (s.front ++ rest)) (sym e.1) ∙ sym s.whole ∙ u.whole ∙ ap (λ m. m ++ (u.front ++ rest')) f.1 in
         with_fronts (e.1 ∙ ap (λ b. b ∷ []) (heads same) ∙ sym f.1) (tails same)
 
-abbrev mechanism_name : Mechanism → List ℕ
+abbrev pub mechanism_name : Mechanism → List ℕ
 mechanism_name All = codes "all"
 mechanism_name (Include spec) = codes "include"
 mechanism_name (A spec l m) = codes "a"
@@ -139,24 +133,13 @@ mechanism_name (Ip4 p) = codes "ip4"
 mechanism_name (Ip6 p) = codes "ip6"
 mechanism_name (Exists spec) = codes "exists"
 
-abbrev term_name : Term → List ℕ
+abbrev pub term_name : Term → List ℕ
 term_name (Directive v m) = mechanism_name m
 term_name (Redirect spec) = codes "redirect"
 term_name (Exp spec) = codes "exp"
 term_name (Unknown name value) = name
 
--- what stands behind the name
-abbrev BehindMechanism : Mechanism → List ℕ → Type 0
-BehindMechanism All rest = rest ≡ []
-BehindMechanism (Include spec) rest = SpellsTarget rest (Some spec)
-BehindMechanism (A spec l m) rest = SpellsHosts spec l m rest
-BehindMechanism (Mx spec l m) rest = SpellsHosts spec l m rest
-BehindMechanism (Ptr spec) rest = SpellsTarget rest spec
-BehindMechanism (Ip4 p) rest = SpellsNetwork SpellsIp4 32 p rest
-BehindMechanism (Ip6 p) rest = SpellsNetwork SpellsIp6 128 p rest
-BehindMechanism (Exists spec) rest = SpellsTarget rest (Some spec)
-
-abbrev Behind : Term → List ℕ → List ℕ → Type 0
+abbrev pub Behind : Term → List ℕ → List ℕ → Type 0
 Behind (Directive v m) mark rest = SpellsQualifier mark v × BehindMechanism m rest
 Behind (Redirect spec) mark rest = (mark ≡ []) × ((value : List ℕ) × SpellsDomainSpec false value spec × (rest ≡ 61 ∷ value))
 Behind (Exp spec) mark rest = (mark ≡ []) × ((value : List ℕ) × SpellsDomainSpec true value spec × (rest ≡ 61 ∷ value))
@@ -180,7 +163,7 @@ hosts_begin Q none colon slash spec l m rest h =
     (slashed [] 32 h.after4 h.after6 l h.short4 (subst IsSlashed (append-nil h.after6) (slashed (codes "/") 128 h.after6 [] m h.short6 tt))) in
     subst Q (sym h.whole) (target_begin (λ t. Q (t ++ behind)) lens (λ r. colon (r ++ behind)) spec h.target h.hosts)
 
-mechanism_begin : (Q : List ℕ → Type 0) → Q [] → ((r : List ℕ) → Q (58 ∷ r)) → ((r : List ℕ) → Q (47 ∷ r)) → (m : Mechanism) (rest : List ℕ) → BehindMechanism m rest → Q rest
+pub mechanism_begin : (Q : List ℕ → Type 0) → Q [] → ((r : List ℕ) → Q (58 ∷ r)) → ((r : List ℕ) → Q (47 ∷ r)) → (m : Mechanism) (rest : List ℕ) → BehindMechanism m rest → Q rest
 mechanism_begin Q none colon slash All rest h = subst Q (sym h) none
 mechanism_begin Q none colon slash (Include spec) rest h = target_begin Q none colon (Some spec) rest h
 mechanism_begin Q none colon slash (A spec l m) rest h = hosts_begin Q none colon slash spec l m rest h
@@ -203,7 +186,7 @@ sees_word text mark front name rest marks says letters begins pauses whole = rec
   whole = whole;
 }
 
-names_are_names : (m : Mechanism) → (list_all is_name_byte (mechanism_name m) ≡ true) × (is_ascii_alphabetic (head_or 0 (mechanism_name m)) ≡ true)
+pub names_are_names : (m : Mechanism) → (list_all is_name_byte (mechanism_name m) ≡ true) × (is_ascii_alphabetic (head_or 0 (mechanism_name m)) ≡ true)
 names_are_names All = (refl, refl)
 names_are_names (Include spec) = (refl, refl)
 names_are_names (A spec l m) = (refl, refl)
@@ -232,7 +215,7 @@ mechanism_parts text (Ip4 p) h = h
 mechanism_parts text (Ip6 p) h = h
 mechanism_parts text (Exists spec) h = h
 
-view : (text : List ℕ) (t : Term) → SpellsTerm text t → (mark rest : List ℕ) × Sees text mark (term_name t) rest × Behind t mark rest
+pub view : (text : List ℕ) (t : Term) → SpellsTerm text t → (mark rest : List ℕ) × Sees text mark (term_name t) rest × Behind t mark rest
 view text (Directive v m) h =
     let parts = mechanism_parts h.1 m h.3 in
     let names = names_are_names m in (
@@ -391,7 +374,7 @@ same_term one (Unknown n a) (Directive w m) mark rest h g name numbered = absurd
 same_term one t u mark rest h g name numbered = apart (term_number t) (term_number u) refl numbered
 
 -- a word is at most one term
-one_term : OneAddress → (text : List ℕ) (t u : Term) → SpellsTerm text t → SpellsTerm text u → t ≡ u
+pub one_term : OneAddress → (text : List ℕ) (t u : Term) → SpellsTerm text t → SpellsTerm text u → t ≡ u
 one_term one text t u h g =
     let a = view text t h in
     let b = view text u g in
@@ -485,11 +468,6 @@ mark_no_space : (mark : List ℕ) → (mark ≡ []) ⊎ ((b : ℕ) × (mark ≡ 
 mark_no_space mark (inl e) = ap (list_all no_space) e
 mark_no_space mark (inr e) = ap (list_all no_space) e.1 ∙ and_from (no_space e.0) true (keeps_out is_mark 32 refl e.0 e.2) refl
 
--- a word, with a byte at its head and none that is a space
-abbrev IsWord : List ℕ → Type 0
-IsWord [] = ⊥
-IsWord (b ∷ bs) = list_all no_space (b ∷ bs) ≡ true
-
 sees_some : (mark front rest : List ℕ) → is_ascii_alphabetic (head_or 0 front) ≡ true → 0 < length (mark ++ (front ++ rest))
 sees_some (m ∷ ms) front rest h = omega arith
 sees_some [] (f ∷ fs) rest h = omega arith
@@ -499,7 +477,7 @@ is_word : (text : List ℕ) → 0 < length text → list_all no_space text ≡ t
 is_word [] some h = absurd (omega (arith, some))
 is_word (b ∷ bs) some h = h
 
-term_word : OneAddress → (text : List ℕ) (t : Term) → SpellsTerm text t → IsWord text
+pub term_word : OneAddress → (text : List ℕ) (t : Term) → SpellsTerm text t → IsWord text
 term_word one text t h =
     let a = view text t h in
     let s = a.2 in
@@ -509,21 +487,21 @@ term_word one text t h =
 
 -- ---- terms and policies
 
-word_stops : (word rest : List ℕ) → IsWord word → Stops is_space (word ++ rest)
+pub word_stops : (word rest : List ℕ) → IsWord word → Stops is_space (word ++ rest)
 word_stops [] rest h = absurd h
 word_stops (b ∷ bs) rest h = not-true (b == 32) (and_parts (no_space b) (list_all no_space bs) h).0
 
-word_passes : (word : List ℕ) → IsWord word → list_all no_space word ≡ true
+pub word_passes : (word : List ℕ) → IsWord word → list_all no_space word ≡ true
 word_passes [] h = absurd h
 word_passes (b ∷ bs) h = h
 
-no_spaces_alone : (gap word rest : List ℕ) → IsWord word → list_all is_space (gap ++ (word ++ rest)) ≡ true → ⊥
+pub no_spaces_alone : (gap word rest : List ℕ) → IsWord word → list_all is_space (gap ++ (word ++ rest)) ≡ true → ⊥
 no_spaces_alone gap [] rest h all = h
 no_spaces_alone gap (b ∷ bs) rest h all =
     let behind = (and_parts (list_all is_space gap) (list_all is_space ((b ∷ bs) ++ rest)) (sym (list_all-append is_space gap ((b ∷ bs) ++ rest)) ∙ all)).1 in
     both_ways (b == 32) (not-true (b == 32) (and_parts (no_space b) (list_all no_space bs) h).0) (and_parts (is_space b) (list_all is_space (bs ++ rest)) behind).0
 
-terms_pause : (text : List ℕ) (ts : List Term) → SpellsTerms text ts → Pauses no_space text
+pub terms_pause : (text : List ℕ) (ts : List Term) → SpellsTerms text ts → Pauses no_space text
 terms_pause text [] h = spaces text h
   where
     spaces : (text : List ℕ) → list_all is_space text ≡ true → Pauses no_space text

@@ -16,8 +16,10 @@ use Rattle.spf_macros.specs.declared.piece.Piece.TheVariants.{Literal, Percent, 
 use Rattle.spf_macros.specs.Grammar.{is_let_dig_hyp, is_literal, is_toplabel, is_expand, letter_byte, SpellsMacro, SpellsPiece, SpellsMacroText, SpellsDomainEnd, SpellsDomainSpec}
 use Rattle.spf_macros.specs.Reading.{Pauses}
 use Rattle.spf_macros.proofs.DomainSpecs.{spec_spelled}
+use Rattle.spf_macros.proofs.Digits.{same_digit}
 use Rattle.spf_macros.proofs.Spans.{one_span}
 use Rattle.spf_macros.proofs.OneReading.{heads, tails, head_or, is_digit, all_digits, one_macro_text}
+use Rattle.spf_grammar.specs.Reading.{is_len_byte, ends_in_len, IsSlashed}
 use Rattle.spf_grammar.specs.Grammar.{SpellsLen, SpellsTarget, SpellsHosts, SpellsNetwork}
 
 -- ---- lists
@@ -77,27 +79,18 @@ one_spec explain text a b h g = one_macro_text text a b (spec_spelled explain te
 
 -- ---- no domain-spec ends as lengths do
 
--- a digit or a slash
-abbrev pub is_len_byte : ℕ → Bool
-is_len_byte b = is_digit b || b == 47
-
--- some slash has nothing but digits and slashes behind it
-abbrev pub ends_in_len : List ℕ → Bool
-ends_in_len [] = false
-ends_in_len (b ∷ bs) = (b == 47 && list_all is_len_byte bs) || ends_in_len bs
-
 ends_in_len_at : (front rest : List ℕ) → list_all is_len_byte rest ≡ true → ends_in_len (front ++ 47 ∷ rest) ≡ true
 ends_in_len_at [] rest h = or_left (true && list_all is_len_byte rest) (ends_in_len rest) h
 ends_in_len_at (b ∷ bs) rest h = or_right (b == 47 && list_all is_len_byte (bs ++ 47 ∷ rest)) (ends_in_len (bs ++ 47 ∷ rest)) (ends_in_len_at bs rest h)
 
 -- only the part from the last other byte on decides
-ends_in_len-append : (front end : List ℕ) → list_all is_len_byte end ≡ false → ends_in_len (front ++ end) ≡ ends_in_len end
+pub ends_in_len-append : (front end : List ℕ) → list_all is_len_byte end ≡ false → ends_in_len (front ++ end) ≡ ends_in_len end
 ends_in_len-append [] end h = refl
 ends_in_len-append (b ∷ bs) end h =
     ap (λ t. t || ends_in_len (bs ++ end)) (and_right (b == 47) (list_all is_len_byte (bs ++ end)) (all_second is_len_byte bs end h))
     ∙ ends_in_len-append bs end h
 
-no_slash : (bs : List ℕ) → list_all (λ b. not (b == 47)) bs ≡ true → ends_in_len bs ≡ false
+pub no_slash : (bs : List ℕ) → list_all (λ b. not (b == 47)) bs ≡ true → ends_in_len bs ≡ false
 no_slash [] h = refl
 no_slash (b ∷ bs) h = let split = and_parts (not (b == 47)) (list_all (λ b. not (b == 47)) bs) h in
     or_from (b == 47 && list_all is_len_byte bs) (ends_in_len bs) (and_left (b == 47) (list_all is_len_byte bs) (not-true (b == 47) split.0)) (no_slash bs split.1)
@@ -125,7 +118,7 @@ domain_end text pieces (inl h) = (
 )
 domain_end text pieces (inr h) = expand_end text h.0 h.1 h.2
 
-target_end : (text : List ℕ) (spec : Option (List Piece)) → SpellsTarget text spec → ends_in_len text ≡ false
+pub target_end : (text : List ℕ) (spec : Option (List Piece)) → SpellsTarget text spec → ends_in_len text ≡ false
 target_end text None h = ap ends_in_len h
 target_end text (Some spec) h =
     let end = domain_end h.1.end h.1.ends h.1.last in
@@ -137,12 +130,7 @@ target_end text (Some spec) h =
 pub lens_bytes : (s : List ℕ) (most : ℕ) (text : List ℕ) (len : ℕ) → most ≤ 128 → list_all is_len_byte s ≡ true → SpellsLen s most text len → list_all is_len_byte text ≡ true
 lens_bytes s most text len small slash (inl h) = ap (list_all is_len_byte) h.0
 lens_bytes s most text len small slash (inr h) = ap (list_all is_len_byte) h.1 ∙ all_both is_len_byte s (decimal len) slash
-    (weaker is_digit is_len_byte (λ b d. or_left (is_digit b) (b == 47) d) (decimal len) (decimal_digits len (len_fits len (omega (arith, small, h.0)))))
-
--- lengths begin with a slash
-abbrev pub IsSlashed : List ℕ → Type 0
-IsSlashed [] = Unit {0}
-IsSlashed (b ∷ bs) = b ≡ 47
+    (weaker is_digit is_len_byte (λ b d. or_left (is_ascii_digit b) (b == 47) (sym (same_digit b) ∙ d)) (decimal len) (decimal_digits len (len_fits len (omega (arith, small, h.0)))))
 
 pub slashed : (more : List ℕ) (most : ℕ) (text rest : List ℕ) (len : ℕ) → SpellsLen (47 ∷ more) most text len → IsSlashed rest → IsSlashed (text ++ rest)
 slashed more most text rest len (inl h) r = subst IsSlashed (ap (λ t. t ++ rest) (sym h.0)) r
@@ -166,7 +154,7 @@ nothing_between a b (c ∷ cs) x y ends bytes slash e f =
     (sym (list_all-append is_len_byte cs y) ∙ (and_parts (is_len_byte c) (list_all is_len_byte (cs ++ y)) (ap (list_all is_len_byte) (sym f) ∙ bytes)).1)).0 in
     absurd (both_ways (ends_in_len b) ends (ap ends_in_len (e ∙ ap (λ d. a ++ d ∷ cs) at_slash) ∙ ends_in_len_at a cs all))
 
-fronts : (a b x y : List ℕ) → ends_in_len a ≡ false → ends_in_len b ≡ false → list_all is_len_byte x ≡ true → list_all is_len_byte y ≡ true
+pub fronts : (a b x y : List ℕ) → ends_in_len a ≡ false → ends_in_len b ≡ false → list_all is_len_byte x ≡ true → list_all is_len_byte y ≡ true
     → IsSlashed x → IsSlashed y → a ++ x ≡ b ++ y → (a ≡ b) × (x ≡ y)
 fronts a b x y ea eb bx by_ sx sy h = elim (cut_twice a b x y h) [
   | inl r ↦ let none = nothing_between a b r.0 x y eb bx sx r.1 r.2 in
@@ -196,7 +184,7 @@ one_len6 text m n (inr h) (inl g) = absurd (empty (ap length (sym g.0 ∙ h.1)))
     empty e = omega (arith, e)
 one_len6 text m n (inr h) (inr g) = decimal_once m n (len_fits m h.0) (len_fits n g.0) (tails (tails (sym h.1 ∙ g.1)))
 
-pauses6 : (text : List ℕ) (len : ℕ) → SpellsLen (codes "//") 128 text len → Pauses is_digit text
+pub pauses6 : (text : List ℕ) (len : ℕ) → SpellsLen (codes "//") 128 text len → Pauses is_digit text
 pauses6 text len (inl h) = subst (λ t. Pauses is_digit t) (sym h.0) tt
 pauses6 text len (inr h) = subst (λ t. Pauses is_digit t) (sym h.1) refl
 
