@@ -1,9 +1,11 @@
 //! The domain-specs and lengths of mechanisms.
-ghost use Rattle.std.specs.Prelude.{◌≡◌, ◌≢◌, ◌++◌, ◌∷◌, ℕ, List, length, IfOk, MatchOption};
+ghost use Rattle.std.specs.Prelude.{◌≡◌, ◌+◌, ◌<◌, ◌^◌, ◌||◌, ◌&&◌, ◌==◌, nat_lt, if◌then◌else◌, ℕ, List, length, IfOk};
+ghost use Rattle.std.specs.Char.{is_ascii_digit};
 ghost use Rattle.spf_macros.specs.Reading.{Reads};
 ghost use Rattle.spf_grammar.specs.Grammar.{SpellsTarget};
 ghost use Rattle.spf_grammar.specs.Reading.{SplitsLens, SpellsRequired, SpellsAsHosts};
 
+use crate::bytes::behind;
 use crate::lengths::read_dual;
 use spf_macros::{MacroText, read_domain_spec};
 use std::alloc::{AllocError, Global};
@@ -14,16 +16,6 @@ pub(crate) struct Hosts {
     pub(crate) target: Option<MacroText>,
     pub(crate) len4: u32,
     pub(crate) len6: u32,
-}
-
-/// What stands behind the byte that the text begins with.
-pub(crate) fn behind(text: &[u8], byte: u8) -> Option<&[u8]>
-    ensures { MatchOption result ((rest : List ℕ) → text.now ≢ byte ∷ rest) (λ rest. text.now ≡ byte ∷ rest.now) }
-{
-    match text.split_first() {
-        Some((first, rest)) if *first == byte => Some(rest),
-        _ => None,
-    }
 }
 
 /// The domain-spec behind a colon.
@@ -52,15 +44,25 @@ pub(crate) fn read_optional_target(
     }
 }
 
+/// Where the lengths begin once one more byte is seen.
+fn next_start(start: usize, i: usize, byte: u8) -> usize
+    requires { i + 1 < 2 ^ 64 }
+    ensures { result ≡ (if byte == 47 || (is_ascii_digit byte && nat_lt start i) then start else i + 1) }
+{
+    if byte == b'/' || (byte.is_ascii_digit() && start < i) {
+        start
+    } else {
+        i + 1
+    }
+}
+
 /// Where the lengths begin: at the first slash behind which only digits and slashes stand.
 fn lens_start(text: &[u8]) -> usize
     ensures { (front lens : List ℕ) × SplitsLens text.now front lens × (length front ≡ result) }
 {
     let mut start = 0;
     for (i, byte) in text.iter().enumerate() {
-        if *byte != b'/' && !(byte.is_ascii_digit() && start < i) {
-            start = i + 1;
-        }
+        start = next_start(start, i, *byte);
     }
     start
 }

@@ -7,6 +7,7 @@ ghost use Rattle.spf_macros.specs.Reading.{Reads};
 ghost use Rattle.spf_grammar.specs.Grammar.{SpellsLen};
 ghost use Rattle.spf_grammar.specs.Reading.{SpellsNumber, SpellsDual, SplitsDual};
 
+use crate::bytes::behind;
 use itoa::Buffer;
 
 fn are_digits(text: &[u8]) -> bool
@@ -73,10 +74,12 @@ fn digit_count(text: &[u8]) -> usize
 fn split_dual(lens: &[u8]) -> (&[u8], &[u8])
     ensures { SplitsDual lens.now result.0.now result.1.now }
 {
-    match lens {
-        [b'/', b'/', ..] => lens.split_at(0),
-        [b'/', behind @ ..] => lens.split_at(1 + digit_count(behind)),
-        _ => lens.split_at(0),
+    let Some(rest) = behind(lens, b'/') else {
+        return lens.split_at(0);
+    };
+    match behind(rest, b'/') {
+        Some(_) => lens.split_at(0),
+        None => lens.split_at(1 + digit_count(rest)),
     }
 }
 

@@ -1,6 +1,7 @@
 //! SPF records and first-match lists (RFC 7208).
 #![tactic(auto)]
 
+mod bytes;
 mod flat;
 mod hosts;
 mod keywords;

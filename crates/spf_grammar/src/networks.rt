@@ -4,7 +4,7 @@ ghost use Rattle.std.specs.List.{prefix_len};
 ghost use Rattle.spf_macros.specs.Reading.{Reads, IsSpan};
 ghost use Rattle.spf_grammar.specs.Reading.{SpellsNetwork4, SpellsNetwork6, is_no_slash};
 
-use crate::hosts::behind;
+use crate::bytes::behind;
 use crate::lengths::read_len;
 use addr_bits::{Prefix, read_ip4, read_ip6};
 

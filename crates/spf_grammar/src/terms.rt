@@ -8,7 +8,7 @@ ghost use Rattle.spf_grammar.specs.Grammar as grammar;
 ghost use Rattle.spf_grammar.specs.Reading.{IsMark, SplitsMark, SpellsModifier, SpellsDirective};
 ghost use Rattle.spf_grammar.specs.Reading as reading;
 
-use crate::hosts::behind;
+use crate::bytes::behind;
 use crate::keywords::read_keyword;
 use crate::mechanisms::read_mechanism;
 use crate::{Term, Verdict};
