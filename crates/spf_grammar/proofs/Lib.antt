@@ -5,4 +5,5 @@ pub mod Numbers
 pub mod OneTail
 pub mod OnePolicy
 pub mod TermCuts
+pub mod Words
 pub mod WrittenForm

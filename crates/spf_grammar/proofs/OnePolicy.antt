@@ -509,7 +509,7 @@ terms_pause text [] h = spaces text h
     spaces (b ∷ bs) h = not_from_true (b == 32) (and_parts (is_space b) (list_all is_space bs) h).0
 terms_pause text (t ∷ ts) h = subst (λ x. Pauses no_space x) (sym h.6) refl
 
-one_terms : OneAddress → (text : List ℕ) (ts us : List Term) → SpellsTerms text ts → SpellsTerms text us → ts ≡ us
+pub one_terms : OneAddress → (text : List ℕ) (ts us : List Term) → SpellsTerms text ts → SpellsTerms text us → ts ≡ us
 one_terms one text [] [] h g = refl
 one_terms one text [] (u ∷ us) h g =
     absurd (no_spaces_alone g.0 g.1 g.2 (term_word one g.1 u g.4) (and_parts true (list_all is_space (g.0 ++ (g.1 ++ g.2))) (ap (list_all is_space) (sym g.6) ∙ h)).1)

@@ -1,6 +1,6 @@
 -- A term is cut into its qualifier, its name and the rest in one way.
 use Rattle.std.proofs.Common.{◌≡◌, ◌≢◌, ℕ, Bool, true, false, ◌⊎◌, List, [], ◌∷◌, ◌++◌, length, refl, sym, ◌∙◌, ap, subst, inl, inr, append-nil, if◌then◌else◌, Option, Some, None}
-use Rattle.std.proofs.lemmas.Bool.{both_ways, and_parts, and_from, or_left}
+use Rattle.std.proofs.lemmas.Bool.{both_ways, and_parts, and_from, or_left, eqb-false}
 use Rattle.std.specs.Prelude.{codes, ◌==◌, bytes_eq}
 use Rattle.std.specs.Char.{is_ascii_alphabetic, is_ascii_digit}
 use Rattle.std.specs.List.{list_all, list_any}
@@ -114,6 +114,10 @@ modifier_read text name rest value None c e none = λ t h. refused t (told text 
         letters (b ∷ bs) n = let parts = and_parts (is_ascii_alphabetic b) (list_all is_name_byte bs) n in
             and_from (is_name_byte b) (list_all is_name_byte bs) (or_left _ _ (or_left _ _ parts.0)) parts.1
 
+-- the same of a text with nothing for a qualifier
+pub unmarked_read : (text mark name rest value : List ℕ) (o : Option Term) → mark ≡ [] → Cut text mark name rest → rest ≡ 61 ∷ value → Reads (SpellsModifier name) value o → Reads SpellsTerm text o
+unmarked_read text mark name rest value o none c e read = modifier_read text name rest value o (subst (λ m. Cut text m name rest) none c) e read
+
 -- a modifier has no qualifier
 pub marked_refused : (text mark name rest value : List ℕ) → Cut text mark name rest → rest ≡ 61 ∷ value → mark ≢ [] → (t : Term) → SpellsTerm text t → ⊥
 marked_refused text mark name rest value c e some t h = refused t (told text mark name rest t c h).1
@@ -194,3 +198,36 @@ no_mechanism mark name rest k says none (Unknown lower pieces) h = h
 
 pub directive_told : (mark name rest : List ℕ) (k : Keyword) (v : Verdict) (m : Mechanism) → SpellsQualifier mark v → SaysWord name (word k) → SpellsBehind k rest m → SpellsDirective mark name rest (Directive v m)
 directive_told mark name rest k v m q says h = (q, says ∙ ap word (sym h.0), h.1)
+
+-- ---- modifiers by their names
+
+redirect_not_exp : codes "redirect" ≡ codes "exp" → ⊥
+redirect_not_exp e = eqb-false 8 3 refl (ap length e)
+
+pub no_redirect_value : (name value : List ℕ) → SaysWord name (codes "redirect") → ((spec : List Piece) → ¬ SpellsDomainSpec false value spec) → (t : Term) → SpellsModifier name value t → ⊥
+no_redirect_value name value says none (Directive v m) h = h
+no_redirect_value name value says none (Redirect spec) h = none spec h.1
+no_redirect_value name value says none (Exp spec) h = redirect_not_exp (sym says ∙ h.0)
+no_redirect_value name value says none (Unknown lower pieces) h = h.2 (sym h.1 ∙ says)
+
+pub no_exp_value : (name value : List ℕ) → SaysWord name (codes "exp") → ((spec : List Piece) → ¬ SpellsDomainSpec true value spec) → (t : Term) → SpellsModifier name value t → ⊥
+no_exp_value name value says none (Directive v m) h = h
+no_exp_value name value says none (Redirect spec) h = redirect_not_exp (sym h.0 ∙ says)
+no_exp_value name value says none (Exp spec) h = none spec h.1
+no_exp_value name value says none (Unknown lower pieces) h = h.3 (sym h.1 ∙ says)
+
+pub no_name : (name value : List ℕ) → ¬ SaysWord name (codes "redirect") → ¬ SaysWord name (codes "exp") → is_name name ≡ false → (t : Term) → SpellsModifier name value t → ⊥
+no_name name value other1 other2 none (Directive v m) h = h
+no_name name value other1 other2 none (Redirect spec) h = other1 h.0
+no_name name value other1 other2 none (Exp spec) h = other2 h.0
+no_name name value other1 other2 none (Unknown lower pieces) h = both_ways (is_name name) none h.0
+
+pub no_value : (name value : List ℕ) → ¬ SaysWord name (codes "redirect") → ¬ SaysWord name (codes "exp") → ((pieces : List Piece) → ¬ SpellsMacroText value pieces) → (t : Term) → SpellsModifier name value t → ⊥
+no_value name value other1 other2 none (Directive v m) h = h
+no_value name value other1 other2 none (Redirect spec) h = other1 h.0
+no_value name value other1 other2 none (Exp spec) h = other2 h.0
+no_value name value other1 other2 none (Unknown lower pieces) h = none pieces h.4
+
+pub is_marked : (text mark rest : List ℕ) → SplitsMark text mark rest → IsMark mark
+is_marked text mark rest (inl h, e) = inl h.0
+is_marked text mark rest (inr h, e) = inr h

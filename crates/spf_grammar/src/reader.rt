@@ -1,5 +1,5 @@
 //! Reading records.
-ghost use Rattle.std.specs.Prelude.{◌≡◌, IsTrue, IfOk, MatchOption, count_by, false};
+ghost use Rattle.std.specs.Prelude.{◌≡◌, ◌≤◌, IsTrue, IfOk, MatchBool, MatchOption, count_by, false};
 ghost use Rattle.std.specs.List.{list_all, prefix_len};
 ghost use Rattle.spf_text.specs.Version.{is_spf_text};
 ghost use Rattle.spf_macros.specs.Reading.{Pauses, Reads, IsSpan};
@@ -79,23 +79,49 @@ fn is_exp(term: &Term) -> bool
     matches!(term, Term::Exp(_))
 }
 
+/// How many terms are `redirect` modifiers.
 fn redirect_count(terms: &[Term]) -> usize
     ensures { result ≡ count_by grammar.is_redirect terms.now }
 {
-    terms.iter().filter(|term| is_redirect(*term)).count()
+    let mut count = 0;
+    for term in terms {
+        if is_redirect(term) {
+            count += 1;
+        }
+    }
+    count
 }
 
+/// How many terms are `exp` modifiers.
 fn exp_count(terms: &[Term]) -> usize
     ensures { result ≡ count_by grammar.is_exp terms.now }
 {
-    terms.iter().filter(|term| is_exp(*term)).count()
+    let mut count = 0;
+    for term in terms {
+        if is_exp(term) {
+            count += 1;
+        }
+    }
+    count
+}
+
+/// Whether `redirect` and `exp` stand at most once each (RFC 7208, section 6).
+fn are_single(terms: &[Term]) -> bool
+    ensures { MatchBool result ((count_by grammar.is_redirect terms.now ≤ 1) × (count_by grammar.is_exp terms.now ≤ 1))
+        (¬ ((count_by grammar.is_redirect terms.now ≤ 1) × (count_by grammar.is_exp terms.now ≤ 1))) }
+{
+    redirect_count(terms) <= 1 && exp_count(terms) <= 1
 }
 
 /// What stands behind the version section; `None` exactly where the text has none.
 fn behind_version(text: &[u8]) -> Option<&[u8]>
     ensures { MatchOption result (is_spf_text text.now ≡ false) (λ rest. BehindVersion text.now rest.now) }
 {
-    if is_spf(text) { Some(&text[6..]) } else { None }
+    if !is_spf(text) {
+        return None;
+    }
+    let (_, rest) = text.split_at(6);
+    Some(rest)
 }
 
 /// The policy that a text spells (RFC 7208, section 12), with networks cut to their lengths, lengths of 32 and 128
@@ -110,8 +136,9 @@ pub fn parse(alloc: Global, text: &[u8]) -> Result<Option<Policy>, AllocError>
     let Some(terms) = read_terms(alloc, rest)? else {
         return Ok(None);
     };
-    if redirect_count(terms.as_slice()) > 1 || exp_count(terms.as_slice()) > 1 {
-        return Ok(None);
+    if are_single(terms.as_slice()) {
+        Ok(Some(Policy { terms }))
+    } else {
+        Ok(None)
     }
-    Ok(Some(Policy { terms }))
 }
