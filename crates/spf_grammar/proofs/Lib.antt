@@ -1,4 +1,5 @@
 pub mod FirstLemmas
+pub mod HeldTexts
 pub mod HostCuts
 pub mod MechanismKinds
 pub mod Numbers
