@@ -94,12 +94,16 @@ next_place text i start next within s is =
     subst (λ t. StartsAt t next) (sym (take_more text i 0 within)) (subst (λ n. StartsAt (take i text ++ b ∷ []) n) (sym is)
     (cond_both (b == 47 || (is_ascii_digit b && nat_lt start i)) start (i + 1) (λ n. StartsAt (take i text ++ b ∷ []) n)
     (λ on. kept (take i text) start b s (subst (λ n. (b == 47 || (is_ascii_digit b && nat_lt start n)) ≡ true) (sym len) on))
-    (λ off. (take i text ++ b ∷ [], [], fresh (take i text) b
-        (ended (take i text) start b s
-        (false_from_ne_true (b == 47) (λ e. both_ways (b == 47 || (is_ascii_digit b && nat_lt start i)) off (or_left (b == 47) (is_ascii_digit b && nat_lt start i) e)))
-        (subst (λ n. (is_ascii_digit b && nat_lt start n) ≡ false) (sym len)
-        (false_from_ne_true (is_ascii_digit b && nat_lt start i) (λ e. both_ways (b == 47 || (is_ascii_digit b && nat_lt start i)) off (or_right (b == 47) (is_ascii_digit b && nat_lt start i) e))))),
-        length-append (take i text) (b ∷ []) ∙ ap (λ n. n + 1) len))))
+    (λ off. (
+      take i text ++ b ∷ [],
+      [],
+      fresh (take i text) b
+          (ended (take i text) start b s
+          (false_from_ne_true (b == 47) (λ e. both_ways (b == 47 || (is_ascii_digit b && nat_lt start i)) off (or_left (b == 47) (is_ascii_digit b && nat_lt start i) e)))
+          (subst (λ n. (is_ascii_digit b && nat_lt start n) ≡ false) (sym len)
+          (false_from_ne_true (is_ascii_digit b && nat_lt start i) (λ e. both_ways (b == 47 || (is_ascii_digit b && nat_lt start i)) off (or_right (b == 47) (is_ascii_digit b && nat_lt start i) e))))),
+      length-append (take i text) (b ∷ []) ∙ ap (λ n. n + 1) len,
+    ))))
 
 pub starts_at_nothing : StartsAt [] 0
 unfolding StartsAt

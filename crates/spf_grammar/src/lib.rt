@@ -11,6 +11,8 @@ mod mechanisms;
 mod networks;
 mod policy;
 mod reader;
+#[cfg(test)]
+mod record_tests;
 mod terms;
 #[cfg(test)]
 mod tests;

@@ -38,11 +38,7 @@ fn read_address(alloc: Global, text: &[u8]) -> Result<Option<Mechanism>, AllocEr
     let Some(hosts) = read_hosts(alloc, text)? else {
         return Ok(None);
     };
-    Ok(Some(Mechanism::A(
-        hosts.target,
-        hosts.len4,
-        hosts.len6,
-    )))
+    Ok(Some(Mechanism::A(hosts.target, hosts.len4, hosts.len6)))
 }
 
 /// What stands behind `mx` (RFC 7208, section 5.4).
@@ -52,11 +48,7 @@ fn read_mx(alloc: Global, text: &[u8]) -> Result<Option<Mechanism>, AllocError>
     let Some(hosts) = read_hosts(alloc, text)? else {
         return Ok(None);
     };
-    Ok(Some(Mechanism::Mx(
-        hosts.target,
-        hosts.len4,
-        hosts.len6,
-    )))
+    Ok(Some(Mechanism::Mx(hosts.target, hosts.len4, hosts.len6)))
 }
 
 /// What stands behind `ptr` (RFC 7208, section 5.5).

@@ -6,5 +6,5 @@ use Rattle.spf_grammar.proofs.reader.redirect_count.Given as goal
 abbrev pub invariant-loop-term : goal.invariant-loop-term
 invariant-loop-term l = record {
   counted : l.count ≡ count_by is_redirect (take l.term-index l.terms);
-  within : l.count ≤ l.term-index
+  within : l.count ≤ l.term-index;
 }
