@@ -1,1 +1,10 @@
 pub mod FirstLemmas
+pub mod HeldTexts
+pub mod HostCuts
+pub mod MechanismKinds
+pub mod Numbers
+pub mod OneTail
+pub mod OnePolicy
+pub mod TermCuts
+pub mod Words
+pub mod WrittenForm

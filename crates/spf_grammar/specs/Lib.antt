@@ -1,5 +1,9 @@
 pub mod Families
 pub mod FirstMatch
 pub mod Flat
+pub mod Grammar
+pub mod Laws
 pub mod Lists
+pub mod Policies
+pub mod Reading
 pub mod Written

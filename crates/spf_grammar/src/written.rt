@@ -9,7 +9,7 @@ use arrayvec::ArrayString;
 use itoa::Buffer;
 
 /// The qualifier of a verdict, of which `+` is not written.
-fn qualifier(verdict: Verdict) -> &'static str
+pub(crate) fn qualifier(verdict: Verdict) -> &'static str
     ensures text { result.now ≡ written_qualifier verdict }
     ensures short { length result.now ≤ 1 }
 {

@@ -1,0 +1,8 @@
+use Rattle.std.proofs.Common.{subst}
+use Rattle.spf_macros.specs.Reading.{Reads}
+use Rattle.spf_grammar.specs.Reading.{SpellsAsHosts}
+use Rattle.spf_grammar.proofs.MechanismKinds.{no_a}
+use Rattle.spf_grammar.proofs.mechanisms.read_address.Goals as goal
+
+pub returns-in_default : goal.returns-in_default
+returns-in_default c = no_a c.args.text.now (subst (λ read. Reads SpellsAsHosts c.args.text.now read) c.in_default.is c.in_ok-hosts.ensures)

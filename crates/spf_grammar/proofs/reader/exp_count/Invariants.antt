@@ -1,0 +1,10 @@
+use Rattle.std.proofs.Common.{◌≡◌, ◌≤◌, take}
+use Rattle.std.specs.Prelude.{count_by}
+use Rattle.spf_grammar.specs.Grammar.{is_exp}
+use Rattle.spf_grammar.proofs.reader.exp_count.Given as goal
+
+abbrev pub invariant-loop-term : goal.invariant-loop-term
+invariant-loop-term l = record {
+  counted : l.count ≡ count_by is_exp (take l.term-index l.terms);
+  within : l.count ≤ l.term-index;
+}

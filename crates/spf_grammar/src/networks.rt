@@ -1,0 +1,56 @@
+//! The networks of `ip4` and `ip6` terms.
+ghost use Rattle.std.specs.Prelude.{◌≡◌, ◌≢◌, ◌∷◌, ℕ, List, MatchOption};
+ghost use Rattle.std.specs.List.{prefix_len};
+ghost use Rattle.spf_macros.specs.Reading.{Reads, IsSpan};
+ghost use Rattle.spf_grammar.specs.Reading.{SpellsNetwork4, SpellsNetwork6, is_no_slash};
+
+use crate::bytes::behind;
+use crate::lengths::read_len;
+use addr_bits::{Prefix, read_ip4, read_ip6};
+
+fn slash_place(text: &[u8]) -> usize
+    ensures { result ≡ prefix_len is_no_slash text.now }
+{
+    text.iter().take_while(|byte| **byte != b'/').count()
+}
+
+/// What stands before the first slash, and the rest.
+fn split_slash(text: &[u8]) -> (&[u8], &[u8])
+    ensures { IsSpan is_no_slash text.now result.0.now result.1.now }
+{
+    text.split_at(slash_place(text))
+}
+
+/// The IPv4 network behind a colon, cut to its length (RFC 7208, section 5.6).
+pub(crate) fn read_network4(text: &[u8]) -> Option<Prefix<u32>>
+    ensures { Reads SpellsNetwork4 text.now result }
+{
+    let Some(network) = behind(text, b':') else {
+        return None;
+    };
+    let (address, after) = split_slash(network);
+    let Ok(address) = read_ip4(address) else {
+        return None;
+    };
+    let Some(len) = read_len(after, b"/", 32) else {
+        return None;
+    };
+    Some(Prefix::new(address, u32::from(len)))
+}
+
+/// The IPv6 network behind a colon, cut to its length (RFC 7208, section 5.6).
+pub(crate) fn read_network6(text: &[u8]) -> Option<Prefix<u128>>
+    ensures { Reads SpellsNetwork6 text.now result }
+{
+    let Some(network) = behind(text, b':') else {
+        return None;
+    };
+    let (address, after) = split_slash(network);
+    let Ok(address) = read_ip6(address) else {
+        return None;
+    };
+    let Some(len) = read_len(after, b"/", 128) else {
+        return None;
+    };
+    Some(Prefix::new(address, u32::from(len)))
+}
