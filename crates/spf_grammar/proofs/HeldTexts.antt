@@ -1,5 +1,5 @@
 -- The macro texts that a policy holds are macro texts.
-use Rattle.std.proofs.Common.{◌≡◌, ℕ, suc, ◌+◌, ◌<◌, List, [], ◌∷◌, length, drop, get_or, drop-cons, refl, sym, ◌∙◌, ap, subst, add-one, arith, Option, Some, None}
+use Rattle.std.proofs.Common.{◌≡◌, ℕ, ◌+◌, ◌<◌, List, [], ◌∷◌, length, drop, get_or, drop-cons, sym, subst, add-one, Option, Some, None}
 use Rattle.spf_macros.specs.declared.piece.Piece.{Piece}
 use Rattle.spf_macros.proofs.DomainSpecs.{spec_spelled}
 use Rattle.spf_grammar.specs.declared.policy.Mechanism.{Mechanism}

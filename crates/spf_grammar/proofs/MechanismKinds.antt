@@ -1,13 +1,12 @@
 -- A mechanism of a name is one of its kind.
-use Rattle.std.proofs.Common.{◌≡◌, ℕ, List, [], Option, Some, refl}
+use Rattle.std.proofs.Common.{◌≡◌, ℕ, List, Option}
 use Rattle.addr_bits.specs.Prefix.{Cidr}
 use Rattle.spf_macros.specs.declared.piece.Piece.{Piece}
 use Rattle.spf_grammar.specs.declared.hosts.Hosts.{Hosts}
-use Rattle.spf_grammar.specs.declared.keywords.Keyword.{Keyword}
 use Rattle.spf_grammar.specs.declared.keywords.Keyword.TheVariants as keyword
 use Rattle.spf_grammar.specs.declared.policy.Mechanism.{Mechanism}
 use Rattle.spf_grammar.specs.declared.policy.Mechanism.TheVariants.{All, Include, A, Mx, Ptr, Ip4, Ip6, Exists}
-use Rattle.spf_grammar.specs.Grammar.{SpellsTarget, SpellsHosts}
+use Rattle.spf_grammar.specs.Grammar.{SpellsTarget}
 use Rattle.spf_grammar.specs.Reading.{SpellsBehind, SpellsRequired, SpellsAsHosts, SpellsNetwork4, SpellsNetwork6}
 
 pub no_include : (text : List ℕ) → ((spec : List Piece) → ¬ SpellsRequired text spec) → (m : Mechanism) → SpellsBehind keyword.Include text m → ⊥

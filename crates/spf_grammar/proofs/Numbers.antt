@@ -1,6 +1,6 @@
 -- The numbers and lengths that texts spell.
-use Rattle.std.proofs.Common.{◌≡◌, ◌≢◌, ℕ, suc, ◌+◌, ◌<◌, ◌≤◌, ◌^◌, min, Bool, true, false, List, [], ◌∷◌, ◌++◌, length, take, drop, refl, sym, ◌∙◌, ap, subst, inl, inr, one-add, arith, lit≤, Option, Some, None}
-use Rattle.std.proofs.lemmas.Bool.{and_parts, eqb-true, both_ways, false_from_ne_true}
+use Rattle.std.proofs.Common.{◌≡◌, ◌≢◌, ℕ, suc, ◌+◌, ◌<◌, ◌≤◌, ◌^◌, min, true, false, List, [], ◌∷◌, ◌++◌, length, take, drop, refl, sym, ◌∙◌, ap, subst, inl, inr, one-add, arith, Option, Some, None}
+use Rattle.std.proofs.lemmas.Bool.{eqb-true, both_ways, false_from_ne_true}
 use Rattle.std.proofs.lemmas.Fmt.{decimal_is_IsNumeral}
 use Rattle.std.specs.Prelude.{◌==◌, codes, decimal}
 use Rattle.std.specs.Char.{is_ascii_digit}
@@ -9,11 +9,10 @@ use Rattle.std.specs.Str.Parse.{digits_value}
 use Rattle.spf_macros.specs.Reading.{Reads, Pauses}
 use Rattle.spf_macros.proofs.Digits.{all_ascii}
 use Rattle.spf_macros.proofs.OneReading.{heads, tails, head_or, is_digit}
-use Rattle.spf_macros.proofs.Digits.{same_digit}
 use Rattle.spf_macros.proofs.Spans.{span_at, one_span}
 use Rattle.spf_grammar.specs.Grammar.{SpellsLen}
 use Rattle.spf_grammar.specs.Reading.{SpellsNumber, is_slash, HasNoFirst, SplitsDual, SpellsDual}
-use Rattle.spf_grammar.proofs.OneTail.{decimal_digits, decimal_head, len_fits, pauses6}
+use Rattle.spf_grammar.proofs.OneTail.{decimal_digits, decimal_head, len_fits}
 
 -- ---- numbers
 

@@ -1,13 +1,13 @@
 -- A text spells at most one policy, where a text is at most one address.
-use Rattle.std.proofs.Common.{◌≡◌, ◌≢◌, append-nil, ℕ, ◌+◌, ◌<◌, ◌≤◌, Bool, true, false, cond, not, ◌||◌, ◌⊎◌, List, [], ◌∷◌, ◌++◌, length, refl, sym, ◌∙◌, ap, subst, inl, inr, arith, lit≤, Option, Some, None, if◌then◌else◌}
+use Rattle.std.proofs.Common.{◌≡◌, ◌≢◌, append-nil, ℕ, ◌+◌, ◌<◌, ◌≤◌, Bool, true, false, cond, ◌⊎◌, List, [], ◌∷◌, ◌++◌, length, refl, sym, ◌∙◌, ap, subst, inl, inr, arith, lit≤, Option, Some, None, if◌then◌else◌}
 use Rattle.std.proofs.lemmas.Bool.{and_parts, and_from, or_left, or_cases, not-true, not_from_true, ltb-true, ltb-false, le-leb, eqb-true, both_ways, cond-false, false_from_ne_true}
 use Rattle.std.proofs.lemmas.List.Folds.{list_all-append}
 use Rattle.std.proofs.lemmas.Slice.Eq.{bytes_eq-Decides}
 use Rattle.std.specs.Prelude.{◌==◌, nat_lt, nat_le, codes, bytes_eq}
-use Rattle.std.specs.List.{list_all, list_any}
-use Rattle.std.specs.Char.{is_ascii_alphabetic, is_ascii_digit, to_ascii_lowercase}
+use Rattle.std.specs.List.{list_all}
+use Rattle.std.specs.Char.{is_ascii_alphabetic, to_ascii_lowercase}
 use Rattle.std.specs.Str.{str_to_ascii_lowercase}
-use Rattle.addr_bits.specs.Prefix.{Cidr, cidr_of}
+use Rattle.addr_bits.specs.Prefix.{Cidr}
 use Rattle.addr_bits.specs.Ip4.{SpellsIp4}
 use Rattle.addr_bits.specs.Ip6.{SpellsIp6}
 use Rattle.addr_bits.specs.Laws.{OneAddress, is_address_byte}

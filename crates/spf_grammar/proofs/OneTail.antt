@@ -1,11 +1,10 @@
 -- The parts of a mechanism are read in one way: its domain-spec, its lengths, its network.
 use Rattle.std.proofs.Common.{◌≡◌, ℕ, suc, ◌<◌, ◌≤◌, ◌^◌, Bool, true, false, not, ◌&&◌, ◌||◌, ◌⊎◌, List, [], ◌∷◌, ◌++◌, length, refl, sym, ◌∙◌, ap, subst, inl, inr, append_assoc, append-nil, arith, lit≤, Option, Some, None}
-use Rattle.std.proofs.lemmas.Bool.{and_parts, and_from, and_left, and_right, or_from, or_left, or_right, or_cases, not-true, eqb-true, leb-true, le-leb, both_ways}
+use Rattle.std.proofs.lemmas.Bool.{and_parts, and_from, and_left, and_right, or_from, or_left, or_right, not-true, eqb-true, both_ways}
 use Rattle.std.proofs.lemmas.Fmt.{decimal_is_IsNumeral}
 use Rattle.std.proofs.lemmas.List.Folds.{list_all-append}
-use Rattle.std.specs.Prelude.{◌==◌, nat_le, codes, decimal}
-use Rattle.std.specs.Int.{is_in_range}
-use Rattle.std.specs.Char.{is_ascii_alphabetic, is_ascii_digit}
+use Rattle.std.specs.Prelude.{◌==◌, codes, decimal}
+use Rattle.std.specs.Char.{is_ascii_digit}
 use Rattle.std.specs.List.{list_all}
 use Rattle.std.specs.Str.Parse.{digits_value}
 use Rattle.addr_bits.specs.Prefix.{Cidr, cidr_of}
@@ -13,7 +12,7 @@ use Rattle.addr_bits.specs.Laws.{is_address_byte}
 use Rattle.spf_macros.specs.declared.piece.Macro.{Macro}
 use Rattle.spf_macros.specs.declared.piece.Piece.{Piece}
 use Rattle.spf_macros.specs.declared.piece.Piece.TheVariants.{Literal, Percent, Space, Percent20, Expand}
-use Rattle.spf_macros.specs.Grammar.{is_let_dig_hyp, is_literal, is_toplabel, is_expand, letter_byte, SpellsMacro, SpellsPiece, SpellsMacroText, SpellsDomainEnd, SpellsDomainSpec}
+use Rattle.spf_macros.specs.Grammar.{is_let_dig_hyp, is_toplabel, is_expand, letter_byte, SpellsMacro, SpellsPiece, SpellsDomainEnd, SpellsDomainSpec}
 use Rattle.spf_macros.specs.Reading.{Pauses}
 use Rattle.spf_macros.proofs.DomainSpecs.{spec_spelled}
 use Rattle.spf_macros.proofs.Digits.{same_digit}

@@ -1,15 +1,14 @@
 -- A record is cut into its version section and its terms in one way.
-use Rattle.std.proofs.Common.{◌≡◌, ◌≢◌, ℕ, suc, ◌+◌, ◌<◌, ◌≤◌, Bool, true, false, not, ◌⊎◌, List, [], ◌∷◌, ◌++◌, length, take, drop, refl, sym, ◌∙◌, ap, subst, inl, inr, append_assoc, append-nil, length-append, take-append-drop, arith, Option, Some, None}
-use Rattle.std.proofs.lemmas.Bool.{and_parts, and_from, both_ways, eqb-true, not-true, not_from_true, false_from_ne_true}
-use Rattle.std.proofs.lemmas.List.Folds.{list_all-append}
+use Rattle.std.proofs.Common.{◌≡◌, ◌≢◌, ℕ, suc, ◌<◌, ◌≤◌, Bool, true, false, not, List, [], ◌∷◌, ◌++◌, length, take, drop, refl, sym, ◌∙◌, ap, subst, append_assoc, append-nil, length-append, take-append-drop, arith}
+use Rattle.std.proofs.lemmas.Bool.{and_parts, and_from, both_ways, eqb-true, not_from_true}
 use Rattle.std.proofs.lemmas.Slice.Eq.{bytes_eq-Decides}
-use Rattle.std.specs.Prelude.{◌==◌, ◌&&◌, codes, count_by, bytes_eq}
+use Rattle.std.specs.Prelude.{◌==◌, codes, count_by, bytes_eq}
 use Rattle.std.specs.List.{list_all}
 use Rattle.std.specs.Str.{str_to_ascii_lowercase}
 use Rattle.addr_bits.proofs.Texts.{one_address}
 use Rattle.spf_text.specs.Version.{is_spf_text, ends_version}
-use Rattle.spf_macros.specs.Reading.{Reads, Pauses, IsSpan}
-use Rattle.spf_macros.proofs.OneReading.{spans, tails}
+use Rattle.spf_macros.specs.Reading.{Pauses, IsSpan}
+use Rattle.spf_macros.proofs.OneReading.{spans}
 use Rattle.spf_macros.proofs.Spans.{one_span}
 use Rattle.spf_grammar.specs.declared.policy.Term.{Term}
 use Rattle.spf_grammar.specs.declared.policy.Policy.{Policy}

@@ -16,7 +16,7 @@ use Rattle.spf_grammar.specs.declared.policy.Mechanism.{Mechanism}
 use Rattle.spf_grammar.specs.declared.policy.Mechanism.TheVariants.{All, Include, A, Mx, Ptr, Ip4, Ip6, Exists}
 use Rattle.spf_grammar.specs.declared.policy.Term.{Term}
 use Rattle.spf_grammar.specs.declared.policy.Term.TheVariants.{Directive, Redirect, Exp, Unknown}
-use Rattle.spf_grammar.specs.Grammar.{SaysWord, SpellsLen, SpellsTarget, SpellsHosts, SpellsNetwork, SpellsQualifier, SpellsTerm, SpellsTerms, is_name, is_name_byte, is_space}
+use Rattle.spf_grammar.specs.Grammar.{SaysWord, SpellsLen, SpellsTarget, SpellsHosts, SpellsNetwork, SpellsQualifier, is_name, is_space}
 
 -- ---- lengths
 

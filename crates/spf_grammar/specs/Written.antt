@@ -1,5 +1,5 @@
 -- Written forms. Among the spellings of a term, which is written is the project's own choice.
-use Rattle.std.specs.Prelude.{ℕ, ◌==◌, List, [], ◌∷◌, ◌++◌, codes, decimal, if◌then◌else◌}
+use Rattle.std.specs.Prelude.{ℕ, ◌==◌, List, [], ◌++◌, codes, decimal, if◌then◌else◌}
 use Rattle.addr_bits.specs.Ip4.{ip4_text}
 use Rattle.addr_bits.specs.Ip6.{ip6_text}
 use Rattle.addr_bits.specs.Prefix.{Cidr}

@@ -1,4 +1,4 @@
-use Rattle.std.proofs.Common.{ℕ, List, length, subst, arith, take_all}
+use Rattle.std.proofs.Common.{ℕ, List, subst, arith, take_all}
 use Rattle.spf_grammar.proofs.HostCuts.{StartsAt, next_place, starts_at_nothing}
 use Rattle.spf_grammar.proofs.hosts.lens_start.Goals as goal
 

@@ -1,4 +1,4 @@
-use Rattle.std.proofs.Common.{ℕ, ◌≢◌, List, [], length, None, sym, ap, subst, ◌∙◌}
+use Rattle.std.proofs.Common.{◌≢◌, [], length, sym, ap, subst, ◌∙◌}
 use Rattle.std.proofs.lemmas.Bool.{eqb-false}
 use Rattle.spf_macros.specs.Reading.{Reads}
 use Rattle.spf_grammar.specs.Reading.{SpellsRequired}

@@ -1,5 +1,4 @@
-use Rattle.std.proofs.Common.{◌≡◌, ◌++◌, ℕ, ◌≤◌, List, length, take, drop, sym, ap, subst, ◌∙◌, arith, length-append}
-use Rattle.spf_grammar.specs.Reading.{SplitsLens}
+use Rattle.std.proofs.Common.{length, ap, arith, length-append}
 use Rattle.spf_grammar.proofs.HostCuts.{split_there}
 use Rattle.spf_grammar.proofs.hosts.split_lens.Goals as goal
 

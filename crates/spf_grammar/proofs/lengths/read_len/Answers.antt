@@ -1,4 +1,4 @@
-use Rattle.std.proofs.Common.{ℕ, ◌≢◌, List, [], ◌++◌, length, Some, None, sym, ap, ◌∙◌}
+use Rattle.std.proofs.Common.{◌≢◌, [], length, Some, None, sym, ap, ◌∙◌}
 use Rattle.std.proofs.lemmas.Bool.{eqb-false}
 use Rattle.std.proofs.lemmas.Bool.Decides.{Decides-eqb}
 use Rattle.std.proofs.lemmas.Slice.Eq.{strip_prefix_is}

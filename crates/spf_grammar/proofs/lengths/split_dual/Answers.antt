@@ -1,7 +1,7 @@
-use Rattle.std.proofs.Common.{ℕ, ◌≤◌, ◌+◌, length, sym, ap, subst, arith, inl, refl}
+use Rattle.std.proofs.Common.{length, ap, arith}
 use Rattle.std.specs.Char.{is_ascii_digit}
 use Rattle.spf_macros.proofs.Spans.{prefix_within}
-use Rattle.spf_grammar.proofs.Numbers.{no_slash_first, two_slashes_first, first_split}
+use Rattle.spf_grammar.proofs.Numbers.{first_split}
 use Rattle.spf_grammar.proofs.lengths.split_dual.Goals as goal
 
 pub overflow_add-digit_count : goal.overflow_add-digit_count

@@ -1,4 +1,4 @@
-use Rattle.std.proofs.Common.{Option, List, length, sym, ap}
+use Rattle.std.proofs.Common.{Option, length, sym, ap}
 use Rattle.std.proofs.lemmas.Bool.{eqb-true, eqb-false}
 use Rattle.std.proofs.lemmas.List.{nil_from_length}
 use Rattle.spf_macros.specs.Reading.{Reads}
