@@ -1,12 +1,14 @@
--- Which words give which job. The form of the words is the project's own choice.
-use Rattle.std.specs.Prelude.{ℕ, ◌+◌, ◌-◌, ◌==◌, Bool, ◌&&◌, List, [], ◌∷◌, length, take, drop, map, Some, None, nat_le, nat_lt, if◌then◌else◌, codes, String, string_bytes}
-use Rattle.std.specs.List.{before_first, after_first}
-use Rattle.std.specs.Str.{bytes_eq, str_to_ascii_lowercase, str_eq_ignore_ascii_case}
-use Rattle.std.specs.declared.option.Option.{Option}
+-- Which words spell which job. The form of the words is the project's own choice.
+use Rattle.std.specs.Prelude.{◌≡◌, ◌≢◌, ◌×◌, ℕ, ◌+◌, ◌<◌, ◌≤◌, ◌==◌, Bool, IsTrue, ◌||◌, List, [], ◌∷◌, length, map, Ok, nat_le, codes, String, string_bytes, bytes_eq, AllPairs}
+use Rattle.std.specs.List.{AllZip, list_all, slice_split, before_first, after_first}
+use Rattle.std.specs.Str.{str_to_ascii_lowercase}
 use Rattle.std.specs.declared.alloc.Global.{Global}
-use Rattle.spf_macros.specs.Words.{is_domain}
+use Rattle.dns_name.specs.Name.{name_of_text, is_dot}
+use Rattle.dns_name.specs.Parts.{without_final}
+use Rattle.spf_macros.specs.Words.{is_domain, is_domain_label}
 use Rattle.spfc_words.specs.declared.job.Job.{Job}
 use Rattle.spfc_words.specs.declared.job.Job.TheVariants.{Compile}
+use Rattle.spfc_words.specs.declared.zone_word.ZoneWord.{ZoneWord}
 
 -- the words as bytes
 abbrev pub texts : List (String Global) → List (List ℕ)
@@ -19,25 +21,48 @@ origin_in word = before_first (λ b. b == 61) word
 abbrev pub file_in : List ℕ → List ℕ
 file_in word = after_first (λ b. b == 61) word
 
--- the text without the dot (46) that may end it
-abbrev pub without_dot : List ℕ → List ℕ
-without_dot text = if bytes_eq (drop (length text - 1) text) (codes ".") then take (length text - 1) text else text
+-- `.`, or labels as a domain has them, joined by dots, with or without a final dot
+abbrev pub is_origin : List ℕ → Bool
+is_origin text = bytes_eq text (codes ".") || list_all is_domain_label (slice_split is_dot (without_final is_dot text))
 
--- the word has the name of a file, and its origin is the domain in either case
-abbrev pub is_zone_of : List ℕ → List ℕ → Bool
-is_zone_of domain word = nat_lt 0 (length (file_in word)) && str_eq_ignore_ascii_case (without_dot (origin_in word)) domain
+-- RFC 1034, section 3.1: the text has the form of an origin, and writes this name, which is legal
+pub record IsOrigin (text : List ℕ) (name : List (List ℕ)) : Type 0 where
+  pub form : IsTrue (is_origin text)
+  pub written : name_of_text text ≡ Ok name
+
+-- the word is an origin, `=` and the name of a file, which is not empty
+pub record IsZoneWord (word : List ℕ) (zone : ZoneWord) : Type 0 where
+  pub named : IsOrigin (origin_in word) zone.origin
+  pub kept : zone.file ≡ file_in word
+  pub some : 0 < length zone.file
+
+-- no two zones have the same origin
+abbrev pub HaveOwnOrigins : List ZoneWord → Type 0
+HaveOwnOrigins zones = AllPairs (λ a b. a.origin ≢ b.origin) zones
+
+-- 1 to 64 zone words, of different origins
+pub record AreZoneWords (words : List (List ℕ)) (zones : List ZoneWord) : Type 0 where
+  pub each : AllZip IsZoneWord words zones
+  pub some : 1 ≤ length words
+  pub few : length words ≤ 64
+  pub own : HaveOwnOrigins zones
 
 -- RFC 1035, section 2.3.4: the last name of a chain of records, `_spf10.DOMAIN`, has at most 253 characters
 abbrev pub has_room : List ℕ → Bool
 has_room domain = nat_le (length domain + length (codes "_spf10.")) 253
 
--- `compile DOMAIN ORIGIN=FILE`, where the origin is the domain
-abbrev pub compile_of : List (List ℕ) → Option Job
-compile_of (domain ∷ zone ∷ []) =
-    if is_domain domain && (has_room domain && is_zone_of domain zone) then Some (Compile (str_to_ascii_lowercase domain) (file_in zone)) else None
-compile_of words = None
+-- `DOMAIN ORIGIN=FILE..`: the word is a domain, which is taken in lower case, and zone words stand behind it
+pub record IsCompiled (word : List ℕ) (words : List (List ℕ)) (domain : List ℕ) (zones : List ZoneWord) : Type 0 where
+  pub form : IsTrue (is_domain word)
+  pub room : IsTrue (has_room word)
+  pub lower : domain ≡ str_to_ascii_lowercase word
+  pub behind : AreZoneWords words zones
 
--- the job that the words give
-abbrev pub job_of : List (List ℕ) → Option Job
-job_of (command ∷ words) = if bytes_eq command (codes "compile") then compile_of words else None
-job_of [] = None
+-- the words spell the job
+abbrev pub Spells : List (List ℕ) → Job → Type 0
+Spells (command ∷ word ∷ words) (Compile domain zones) = (command ≡ codes "compile") × IsCompiled word words domain zones
+Spells words job = ⊥
+
+-- words spell at most one job
+abbrev pub OneJob : Type 0
+OneJob = (words : List (List ℕ)) (a b : Job) → Spells words a → Spells words b → a ≡ b

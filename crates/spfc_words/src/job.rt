@@ -1,5 +1,6 @@
 //! What the program can be asked to do.
 
+use crate::ZoneWords;
 use addr_bits::Bytes;
 
 /// What the program is asked to do.
@@ -9,7 +10,7 @@ pub enum Job {
     Compile {
         /// The domain, in lower case and without a final dot.
         domain: Bytes,
-        /// The name of the file that holds the domain's zone.
-        file: Bytes,
+        /// The zones to read.
+        zones: ZoneWords,
     },
 }

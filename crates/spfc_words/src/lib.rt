@@ -1,11 +1,12 @@
-//! The words of the command line, and the jobs that they give.
+//! The words of the command line, and the jobs that they spell.
 #![tactic(auto)]
 
 mod job;
+mod laws;
 mod read;
+mod zone_word;
 
 pub use job::Job;
+pub use laws::one_job;
 pub use read::read_words;
-
-#[cfg(test)]
-mod tests;
+pub use zone_word::{ZoneWord, ZoneWords};

@@ -1,8 +1,11 @@
 //! Reading the words.
-ghost use Rattle.std.specs.Prelude.{◌≡◌, true, false, IfOk, MatchOption};
-ghost use Rattle.spfc_words.specs.Words.{texts, job_of, compile_of, file_in, is_zone_of};
+ghost use Rattle.std.specs.Prelude.{◌≡◌, ◌∷◌, codes, IfOk, IfSome, IfNone, MatchOption};
+ghost use Rattle.std.specs.Str.{str_to_ascii_lowercase};
+ghost use Rattle.spfc_words.specs.declared.job.Job.{Job};
+ghost use Rattle.spfc_words.specs.Words.{texts, Spells};
 
 use crate::Job;
+use crate::zone_word::read_zones;
 use addr_bits::Bytes;
 use spf_macros::is_domain;
 use std::alloc::{AllocError, Global};
@@ -13,59 +16,39 @@ const MAX_NAME: usize = 253;
 /// What the last name of a chain of records may have before the domain.
 const LAST_LABEL: &str = "_spf10.";
 
-/// The job that the words after the program's name give; `None` where they give no job.
+/// The job that the words after the program's name spell; `None` exactly where they spell none.
 pub fn read_words(alloc: Global, words: &[String]) -> Result<Option<Job>, AllocError>
-    ensures { IfOk result (λ job. job ≡ job_of (texts words.now)) }
+    ensures spelled { IfOk result (λ job. IfSome job (Spells (texts words.now))) }
+    ensures none { IfOk result (λ job. IfNone job ((any : Job) → ¬ Spells (texts words.now) any)) }
 {
-    let [command, rest @ ..] = words else {
-        return Ok(None);
-    };
-    match command.as_str() {
-        "compile" => read_compile(alloc, rest),
+    match words {
+        [command, domain, rest @ ..] if command.as_str() == "compile" => {
+            read_compile(alloc, domain.as_bytes(), rest)
+        }
         _ => Ok(None),
     }
 }
 
-// The words behind `compile`: a domain and one zone word of it.
-fn read_compile(alloc: Global, words: &[String]) -> Result<Option<Job>, AllocError>
-    ensures { IfOk result (λ job. job ≡ compile_of (texts words.now)) }
+// The job of a domain and zone words, which stand behind `compile`.
+fn read_compile(alloc: Global, domain: &[u8], zones: &[String]) -> Result<Option<Job>, AllocError>
+    ensures { IfOk result (λ job. MatchOption job
+        ((any : Job) → ¬ Spells (codes "compile" ∷ domain.now ∷ texts zones.now) any)
+        (Spells (codes "compile" ∷ domain.now ∷ texts zones.now))) }
 {
-    let [domain, zone] = words else {
-        return Ok(None);
-    };
-    let domain = domain.as_bytes();
     if !is_domain(domain) || domain.len() + LAST_LABEL.len() > MAX_NAME {
         return Ok(None);
     }
-    let Some(file) = file_of(domain, zone.as_str()) else {
+    let Some(zones) = read_zones(alloc, zones)? else {
         return Ok(None);
     };
-    Ok(Some(Job::Compile {
-        domain: bytes_of(alloc, &domain.to_ascii_lowercase(alloc)?)?,
-        file: bytes_of(alloc, file.as_bytes())?,
-    }))
+    let domain = lowercase(alloc, domain)?;
+    Ok(Some(Job::Compile { domain, zones }))
 }
 
-// The name of the file, where the word is a zone word for this domain.
-fn file_of<'a>(domain: &[u8], word: &'a str) -> Option<&'a str>
-    ensures { MatchOption result (is_zone_of domain.now word.now ≡ false)
-        (λ file. (is_zone_of domain.now word.now ≡ true) × (file.now ≡ file_in word.now)) }
-{
-    let Some((origin, file)) = word.split_once('=') else {
-        return None;
-    };
-    let origin = origin.as_bytes();
-    let origin = origin.strip_suffix(b".").unwrap_or(origin);
-    if file.is_empty() || !origin.eq_ignore_ascii_case(domain) {
-        return None;
-    }
-    Some(file)
-}
-
-fn bytes_of(alloc: Global, text: &[u8]) -> Result<Bytes, AllocError>
-    ensures { IfOk result (λ bytes. bytes ≡ text.now) }
+fn lowercase(alloc: Global, text: &[u8]) -> Result<Bytes, AllocError>
+    ensures { IfOk result (λ bytes. bytes ≡ str_to_ascii_lowercase text.now) }
 {
     let mut bytes = Bytes::new(alloc);
-    bytes.extend_from_slice(text)?;
+    bytes.extend_from_slice(&text.to_ascii_lowercase(alloc)?)?;
     Ok(bytes)
 }

@@ -1,0 +1,122 @@
+//! Words that name a zone and its file.
+ghost use Rattle.std.specs.Prelude.{◌≡◌, ℕ, List, IfOk, MatchOption, bytes_eq};
+ghost use Rattle.std.specs.List.{list_all, list_any};
+ghost use Rattle.std.specs.Cmp.Lexicographic.{pointwise};
+ghost use Rattle.dns_name.specs.Name.{is_dot};
+ghost use Rattle.dns_name.specs.Parts.{without_final};
+ghost use Rattle.spf_macros.specs.Words.{is_word_byte, is_domain_label};
+ghost use Rattle.spfc_words.specs.Words as words;
+ghost use Rattle.spfc_words.specs.Words.{texts, IsOrigin, IsZoneWord, AreZoneWords};
+
+use addr_bits::{Bytes, Items};
+use dns_name::Name;
+use std::alloc::{AllocError, Global};
+
+/// The most zones of a job.
+const MOST_ZONES: usize = 64;
+
+/// A zone, and the name of the file that holds it.
+#[derive(Debug, Drop)]
+pub struct ZoneWord {
+    /// The name at the top of the zone.
+    pub origin: Name,
+    /// The name of the file, as it was written.
+    pub file: Bytes,
+}
+
+/// The zones of a job, in the order of their words.
+pub type ZoneWords = Items<ZoneWord>;
+
+/// The zones that the words name: 1 to 64 words ORIGIN=FILE of different origins. `None` where these are no such words.
+pub(crate) fn read_zones(alloc: Global, words: &[String]) -> Result<Option<ZoneWords>, AllocError>
+    ensures { IfOk result (λ zones. MatchOption zones ((any : List ZoneWord) → ¬ AreZoneWords (texts words.now) any)
+        (AreZoneWords (texts words.now))) }
+{
+    let mut zones = ZoneWords::new(alloc);
+    if words.is_empty() || words.len() > MOST_ZONES {
+        return Ok(None);
+    }
+    for word in words {
+        let Some(zone) = read_zone(alloc, word.as_str())? else {
+            return Ok(None);
+        };
+        if has_origin(zones.as_slice(), &zone.origin) {
+            return Ok(None);
+        }
+        zones.push(zone)?;
+    }
+    Ok(Some(zones))
+}
+
+// Whether one of the zones has this origin.
+fn has_origin(zones: &[ZoneWord], origin: &Name) -> bool
+    ensures { result ≡ list_any (λ zone. pointwise bytes_eq zone.origin origin.now) zones.now }
+{
+    zones.iter().any(|zone| zone.origin == *origin)
+}
+
+// The zone that one word names.
+fn read_zone(alloc: Global, word: &str) -> Result<Option<ZoneWord>, AllocError>
+    ensures { IfOk result (λ zone. MatchOption zone ((any : ZoneWord) → ¬ IsZoneWord word.now any) (IsZoneWord word.now)) }
+{
+    let Some((origin, file)) = word.split_once('=') else {
+        return Ok(None);
+    };
+    if file.is_empty() {
+        return Ok(None);
+    }
+    let Some(origin) = read_origin(origin.as_bytes()) else {
+        return Ok(None);
+    };
+    let mut name = Bytes::new(alloc);
+    name.extend_from_slice(file.as_bytes())?;
+    Ok(Some(ZoneWord { origin, file: name }))
+}
+
+// The name that an origin writes (RFC 1034, section 3.1).
+fn read_origin(text: &[u8]) -> Option<Name>
+    ensures { MatchOption result ((any : List (List ℕ)) → ¬ IsOrigin text.now any) (IsOrigin text.now) }
+{
+    if !is_origin(text) {
+        return None;
+    }
+    Name::from_text(text).ok()
+}
+
+// Whether the text is `.`, or labels joined by dots, with or without a final dot.
+fn is_origin(text: &[u8]) -> bool
+    ensures { result ≡ words.is_origin text.now }
+{
+    matches!(text, b".") || are_labels(without_final_dot(text))
+}
+
+fn without_final_dot(text: &[u8]) -> &[u8]
+    ensures { result.now ≡ without_final is_dot text.now }
+{
+    let Some((last, front)) = text.split_last() else {
+        return text;
+    };
+    if *last == b'.' { front } else { text }
+}
+
+fn are_labels(text: &[u8]) -> bool
+    ensures { result ≡ list_all is_domain_label (slice_split is_dot text.now) }
+{
+    text.split(|byte| *byte == b'.').all(is_label)
+}
+
+// A label of 1 to 63 letters, digits, hyphens and underscores that begins with no hyphen.
+fn is_label(label: &[u8]) -> bool
+    ensures { result ≡ is_domain_label label.now }
+{
+    if label.is_empty() || label.len() > 63 || label[0] == b'-' {
+        return false;
+    }
+    label.iter().all(|byte| is_word_byte(*byte))
+}
+
+fn is_word_byte(byte: u8) -> bool
+    ensures { result ≡ words.is_word_byte byte }
+{
+    byte.is_ascii_alphanumeric() || byte == b'-' || byte == b'_'
+}
