@@ -11,8 +11,8 @@ use Rattle.fewest_terms.specs.Chosen.{chosen_list}
 use Rattle.fewest_terms.specs.Totals.{total}
 use Rattle.fewest_terms.specs.Tables.{need_rows}
 use Rattle.fewest_terms.specs.Leaves.{or_neutral, verdict_at}
-use Rattle.spfc_top.specs.declared.compile.Stop.{Stop}
-use Rattle.spfc_top.specs.declared.compile.Stop.TheVariants as stop
+use Rattle.spfc_top.specs.declared.stop.Stop.{Stop}
+use Rattle.spfc_top.specs.declared.stop.Stop.TheVariants as stop
 use Rattle.spfc_top.specs.Due.{Refuses, Gives}
 use Rattle.spfc_top.specs.Compiled.{FitsAlone, fragment_of_one, AreVerdicts, TermsDue, too_big, written}
 use Rattle.spfc_top.specs.Answers.{StopsTerms, IsTooBig}

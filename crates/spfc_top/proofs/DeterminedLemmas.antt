@@ -1,86 +1,28 @@
 -- One thing is due at most.
-use Rattle.std.proofs.Common.{◌≡◌, ℕ, List, [], ◌∷◌, ◌++◌, Some, None, Option, drop, codes, refl, sym, ap, ap₂, ◌∙◌, inl, inr, arith}
-use Rattle.std.proofs.lemmas.Fmt.{decimal_injective}
-use Rattle.addr_bits.specs.Width.{cut_of}
-use Rattle.addr_bits.specs.Prefix.{Cidr}
-use Rattle.addr_bits.proofs.Texts.{one_4}
+use Rattle.std.proofs.Common.{◌≡◌, ℕ, List, [], ◌∷◌, map, Some, None, Ok, Err, Option, Result, refl, sym, ap, ◌∙◌, absurd}
+use Rattle.dns_name.specs.Name.{name_of_text}
+use Rattle.zone_answers.specs.Zone.{Zone}
+use Rattle.zone_answers.specs.Answers.{answer_of}
+use Rattle.zone_answers.specs.declared.answer.QKind.TheVariants as kinds
 use Rattle.spf_grammar.specs.declared.verdict.Verdict.{Verdict}
 use Rattle.spf_grammar.specs.declared.flat.FlatTerm.{FlatTerm}
-use Rattle.spf_grammar.specs.declared.flat.Net.{Net}
-use Rattle.spf_grammar.specs.declared.flat.Net.TheVariants.{V4, V6, All}
+use Rattle.spf_grammar.proofs.OnePolicy.{one_policy}
 use Rattle.fewest_terms.proofs.Whole.{below_all}
 use Rattle.fewest_terms.specs.Chosen.{chosen_list}
 use Rattle.fewest_terms.specs.Totals.{total}
 use Rattle.fewest_terms.specs.Tables.{need_rows}
 use Rattle.spfc_words.specs.declared.job.Job.{Job}
 use Rattle.spfc_words.specs.declared.job.Job.TheVariants.{Compile}
-use Rattle.spfc_top.specs.Due.{Due, Gives}
-use Rattle.spfc_top.specs.Form.{SpellsNet, SpellsNetwork, SpellsLength, SpellTerms, SpellsRecord, IsForm}
+use Rattle.spfc_words.specs.declared.zone_word.ZoneWord.{ZoneWord}
+use Rattle.spfc_top.specs.Due.{Due, Gives, Refuses}
 use Rattle.spfc_top.specs.Compiled.{fragment_of_one, AreVerdicts, TermsDue, too_big, written}
-use Rattle.spfc_top.specs.Findings.{Contents, FileDue, no_file, not_yet, read, IsDue}
+use Rattle.spfc_top.specs.Zones.{Contents}
+use Rattle.spfc_top.specs.Published.{SpellsFlat, Publishes, spf_texts, flat_term}
+use Rattle.spfc_top.specs.Findings.{PolicyDue, not_yet, published, ZonesDue, IsDue}
 use Rattle.spfc_top.specs.Ends.{usage, job, OneIsDue}
-use Rattle.spfc_top.proofs.FormLemmas.{same_text}
 use Rattle.spfc_top.proofs.SameVerdicts.{Agree, rows_same, total_same, chosen_list_same}
-
--- ---- a text spells at most one list of terms
-one_length : (text : List ℕ) (a b : ℕ) → SpellsLength text a → SpellsLength text b → a ≡ b
-one_length text a b (inl x) (inl y) = x.1 ∙ sym y.1
-one_length text a b (inl x) (inr y) = absurd (empty_not (sym x.0 ∙ y.0))
-  where
-    empty_not : {rest : List ℕ} → [] ≡ 47 ∷ rest → ⊥
-    empty_not e = cc
-one_length text a b (inr x) (inl y) = absurd (empty_not (sym y.0 ∙ x.0))
-  where
-    empty_not : {rest : List ℕ} → [] ≡ 47 ∷ rest → ⊥
-    empty_not e = cc
-one_length text a b (inr x) (inr y) = decimal_injective a b (omega (arith, x.1)) (omega (arith, y.1)) (ap (λ (t : List ℕ). drop 1 t) (sym x.0 ∙ y.0))
-
-one_network : (text : List ℕ) (p q : Cidr) → SpellsNetwork text p → SpellsNetwork text q → p ≡ q
-one_network text p q a b =
-    let number : a.number ≡ b.number = one_4 _ a.number b.number a.address b.address in
-    let len : p.len ≡ q.len = one_length _ p.len q.len a.fixes b.fixes in
-    let start : p.start ≡ q.start = a.cut ∙ ap₂ (λ (n l : ℕ). cut_of 32 n l) number len ∙ sym b.cut in
-    ap₂ (λ (s l : ℕ). record { start = s; len = l }) start len
-
-one_net : (text : List ℕ) (m n : Net) → SpellsNet text m → SpellsNet text n → m ≡ n
-one_net text (V4 p) (V4 q) a b = ap (λ (x : Cidr). V4 x) (one_network (drop 4 text) p q a.1 b.1)
-one_net text (V4 p) (V6 q) a b = absurd b
-one_net text (V4 p) All a b = absurd (all_not (sym b ∙ a.0))
-  where
-    all_not : {rest : List ℕ} → codes "all" ≡ codes "ip4:" ++ rest → ⊥
-    all_not e = cc
-one_net text (V6 p) n a b = absurd a
-one_net text All (V4 q) a b = absurd (all_not (sym a ∙ b.0))
-  where
-    all_not : {rest : List ℕ} → codes "all" ≡ codes "ip4:" ++ rest → ⊥
-    all_not e = cc
-one_net text All (V6 q) a b = absurd b
-one_net text All All a b = refl
-
-one_terms : (words : List (List ℕ)) (xs ys : List FlatTerm) → SpellTerms words xs → SpellTerms words ys → xs ≡ ys
-one_terms [] [] [] a b = refl
-one_terms [] [] (y ∷ ys) a b = absurd b
-one_terms [] (x ∷ xs) ys a b = absurd a
-one_terms (word ∷ words) [] ys a b = absurd a
-one_terms (word ∷ words) (x ∷ xs) [] a b = absurd b
-one_terms (word ∷ words) (x ∷ xs) (y ∷ ys) a b =
-    let verdict : x.verdict ≡ y.verdict = a.0.0 ∙ sym b.0.0 in
-    let net : x.net ≡ y.net = one_net _ x.net y.net a.0.1 b.0.1 in
-    let term : x ≡ y = ap₂ (λ (v : Verdict) (n : Net). record { verdict = v; net = n }) verdict net in
-    ap₂ (λ (t : FlatTerm) (ts : List FlatTerm). t ∷ ts) term (one_terms words xs ys a.1 b.1)
-
-one_record : (text : List ℕ) (xs ys : List FlatTerm) → SpellsRecord text xs → SpellsRecord text ys → xs ≡ ys
-one_record text xs ys a b =
-    let words : a.words ≡ b.words = tails (sym a.pieces ∙ b.pieces) in
-    one_terms a.words xs ys a.each (rw words b.each)
-  where
-    tails : {version : List ℕ} {u w : List (List ℕ)} → version ∷ u ≡ version ∷ w → u ≡ w
-    tails e = cc
-
-one_form : (file : List ℕ) (xs ys : List FlatTerm) → IsForm file xs → IsForm file ys → xs ≡ ys
-one_form file xs ys a b =
-    let text : a.text ≡ b.text = same_text a.text b.text (sym a.whole ∙ b.whole) in
-    one_record a.text xs ys a.spelled (rw text b.spelled)
+use Rattle.spfc_top.proofs.Owed.{one_job}
+use Rattle.spfc_top.proofs.ZonesLemmas.{one_of_words}
 
 -- ---- the terms come to one end
 agree_four : (terms : List FlatTerm) (v4 v6 w4 w6 : ℕ → Verdict) → AreVerdicts terms v4 v6 → AreVerdicts terms w4 w6 → Agree v4 w4 32 0
@@ -110,38 +52,77 @@ one_of_terms domain terms x y (written v4 v6 a fits is) (too_big w4 w6 b unfit i
 one_of_terms domain terms x y (written v4 v6 a fits is) (written w4 w6 b fits' is') =
     is ∙ (ap (λ (bytes : List ℕ). Gives bytes) (fragment_same domain terms v4 v6 w4 w6 a b) ∙ sym is')
 
--- ---- and so do the file, the job and the words
-held_twice : {held : Option (List ℕ)} {a b : List ℕ} → held ≡ Some a → held ≡ Some b → a ≡ b
-held_twice p q = cc
+-- ---- zones publish one list
+some_twice : (xs ys : List FlatTerm) → map Some xs ≡ map Some ys → xs ≡ ys
+some_twice [] [] e = refl
+some_twice [] (y ∷ ys) e = absurd (no e)
+  where
+    no : {v : Option FlatTerm} {vs : List (Option FlatTerm)} → [] ≡ v ∷ vs → ⊥
+    no e = cc
+some_twice (x ∷ xs) [] e = absurd (no e)
+  where
+    no : {v : Option FlatTerm} {vs : List (Option FlatTerm)} → v ∷ vs ≡ [] → ⊥
+    no e = cc
+some_twice (x ∷ xs) (y ∷ ys) e = first (head e) (some_twice xs ys (tail e))
+  where
+    first : x ≡ y → xs ≡ ys → x ∷ xs ≡ y ∷ ys
+    first a b = cc
+    head : Some x ∷ map Some xs ≡ Some y ∷ map Some ys → x ≡ y
+    head e = cc
+    tail : Some x ∷ map Some xs ≡ Some y ∷ map Some ys → map Some xs ≡ map Some ys
+    tail e = cc
 
-held_not : {held : Option (List ℕ)} {a : List ℕ} → held ≡ None → held ≡ Some a → ⊥
-held_not p q = cc
+ok_twice : {A E : Type 0} {found : Result A E} {a b : A} → found ≡ Ok a → found ≡ Ok b → a ≡ b
+ok_twice p q = cc
 
-one_of_file : (domain file : List ℕ) (held : Option (List ℕ)) (x y : Due) → FileDue domain file held x → FileDue domain file held y → x ≡ y
-one_of_file domain file held x y (no_file none is) (no_file none' is') = is ∙ sym is'
-one_of_file domain file held x y (no_file none is) (not_yet contents has no_terms is') = absurd (held_not none has)
-one_of_file domain file held x y (no_file none is) (read contents terms has form due) = absurd (held_not none has)
-one_of_file domain file held x y (not_yet contents has no_terms is) (no_file none is') = absurd (held_not none has)
-one_of_file domain file held x y (not_yet contents has no_terms is) (not_yet contents' has' no_terms' is') = is ∙ sym is'
-one_of_file domain file held x y (not_yet contents has no_terms is) (read contents' terms has' form due) = absurd (no_terms terms (rw (held_twice has has') form))
-one_of_file domain file held x y (read contents terms has form due) (no_file none is') = absurd (held_not none has)
-one_of_file domain file held x y (read contents terms has form due) (not_yet contents' has' no_terms is') = absurd (no_terms terms (rw (held_twice has' has) form))
-one_of_file domain file held x y (read contents terms has form due) (read contents' terms' has' form' due') =
-    let same : contents ≡ contents' = held_twice has has' in
-    let terms_same : terms ≡ terms' = one_form contents terms terms' form (rw same form') in
-    one_of_terms domain terms x y due (rw terms_same due')
+one_twice : {A : Type 0} {found : List A} {a b : A} → found ≡ a ∷ [] → found ≡ b ∷ [] → a ≡ b
+one_twice p q = cc
+
+one_flat : (text : List ℕ) (xs ys : List FlatTerm) → SpellsFlat text xs → SpellsFlat text ys → xs ≡ ys
+one_flat text xs ys a b =
+    let same : a.policy ≡ b.policy = one_policy text a.policy b.policy a.spelled b.spelled in
+    some_twice xs ys (sym a.flat ∙ (ap (λ policy. map flat_term policy.terms) same ∙ b.flat))
+
+one_published : (zones : List Zone) (domain : List ℕ) (xs ys : List FlatTerm) → Publishes zones domain xs → Publishes zones domain ys → xs ≡ ys
+one_published zones domain xs ys a b =
+    let name : b.name ≡ a.name = ok_twice b.named a.named in
+    let alone : spf_texts (answer_of zones a.name kinds.Txt) ≡ b.text ∷ [] = rw name at b.alone in
+    let text : b.text ≡ a.text = one_twice alone a.alone in
+    one_flat a.text xs ys a.spelled (rw text at b.spelled)
+
+one_of_policy : (domain : List ℕ) (zones : List Zone) (x y : Due) → PolicyDue domain zones x → PolicyDue domain zones y → x ≡ y
+one_of_policy domain zones x y (not_yet none is) (not_yet none' is') = is ∙ sym is'
+one_of_policy domain zones x y (not_yet none is) (published terms has due) = absurd (none terms has)
+one_of_policy domain zones x y (published terms has due) (not_yet none is) = absurd (none terms has)
+one_of_policy domain zones x y (published terms has due) (published terms' has' due') =
+    one_of_terms domain terms x y due (rw (one_published zones domain terms terms' has has') due')
+
+-- ---- and so do zone words, the job and the words
+one_behind : (held : Contents) (words : List ZoneWord) (Next : List Zone → Due → Type 0) (x y : Due) → ((zones : List Zone) (a b : Due) → Next zones a → Next zones b → a ≡ b)
+    → ZonesDue held words Next x → ZonesDue held words Next y → x ≡ y
+one_behind held words Next x y one (Ok zones, a, n) (Ok zones', a', n') = one zones x y n (rw (ok_same (one_of_words held [] words _ _ a a')) n')
+  where
+    ok_same : {u v : List Zone} → Ok {List Zone} {List ℕ} u ≡ Ok v → u ≡ v
+    ok_same e = cc
+one_behind held words Next x y one (Ok zones, a, n) (Err line, a', n') = absurd (no (one_of_words held [] words _ _ a a'))
+  where
+    no : {u : List Zone} {l : List ℕ} → Ok {List Zone} {List ℕ} u ≡ Err l → ⊥
+    no e = cc
+one_behind held words Next x y one (Err line, a, n) (Ok zones, a', n') = absurd (no (one_of_words held [] words _ _ a a'))
+  where
+    no : {u : List Zone} {l : List ℕ} → Err {List Zone} {List ℕ} l ≡ Ok u → ⊥
+    no e = cc
+one_behind held words Next x y one (Err line, a, n) (Err line', a', n') =
+    n ∙ (ap (λ (l : List ℕ). Refuses 3 l) (err_same (one_of_words held [] words _ _ a a')) ∙ sym n')
+  where
+    err_same : {l m : List ℕ} → Err {List Zone} {List ℕ} l ≡ Err m → l ≡ m
+    err_same e = cc
 
 one_of_job : (j : Job) (held : Contents) (x y : Due) → IsDue j held x → IsDue j held y → x ≡ y
-one_of_job (Compile domain file) held x y a b = one_of_file domain file (held file) x y a b
-
-job_twice : {found : Option Job} {a b : Job} → found ≡ Some a → found ≡ Some b → a ≡ b
-job_twice p q = cc
-
-job_not : {found : Option Job} {a : Job} → found ≡ None → found ≡ Some a → ⊥
-job_not p q = cc
+one_of_job (Compile domain words) held x y a b = one_behind held words _ x y (one_of_policy domain) a b
 
 pub one_is_due : OneIsDue
 one_is_due g x y (usage none is) (usage none' is') = is ∙ sym is'
-one_is_due g x y (usage none is) (job j has due) = absurd (job_not none has)
-one_is_due g x y (job j has due) (usage none is) = absurd (job_not none has)
-one_is_due g x y (job j has due) (job j' has' due') = one_of_job j g.held x y due (rw (job_twice has has') due')
+one_is_due g x y (usage none is) (job j has due) = absurd (none j has)
+one_is_due g x y (job j has due) (usage none is) = absurd (none j has)
+one_is_due g x y (job j has due) (job j' has' due') = one_of_job j g.held x y due (rw (one_job g.words j j' has has') due')

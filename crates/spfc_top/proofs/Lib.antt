@@ -1,8 +1,8 @@
--- proofs/Lib.antt
 pub mod CompiledLemmas
+pub mod DeterminedLemmas
 pub mod DueLemmas
 pub mod EndedLemmas
-pub mod FormLemmas
-pub mod ShortestLemmas
-pub mod DeterminedLemmas
+pub mod Owed
 pub mod SameVerdicts
+pub mod ShortestLemmas
+pub mod ZonesLemmas

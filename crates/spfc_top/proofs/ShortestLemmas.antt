@@ -1,5 +1,5 @@
 -- The output is a shortest one.
-use Rattle.std.proofs.Common.{◌≡◌, ℕ, List, refl, sym, ◌∙◌}
+use Rattle.std.proofs.Common.{◌≡◌, ℕ, List, Ok, Err, refl, sym, ◌∙◌}
 use Rattle.addr_bits.specs.Address.{IsAddress}
 use Rattle.addr_bits.specs.declared.address.Address.{Address}
 use Rattle.addr_bits.specs.declared.address.Address.TheVariants.{V4, V6}
@@ -19,7 +19,10 @@ use Rattle.spfc_words.specs.declared.job.Job.{Job}
 use Rattle.spfc_words.specs.declared.job.Job.TheVariants.{Compile}
 use Rattle.spfc_top.specs.Due.{Refuses, Gives}
 use Rattle.spfc_top.specs.Compiled.{AreVerdicts, TermsDue, too_big, written, IsShortest}
-use Rattle.spfc_top.specs.Findings.{Contents, no_file, not_yet, read, IsDue, IsBest}
+use Rattle.spfc_top.specs.Zones.{Contents}
+use Rattle.spfc_top.specs.Published.{Publishes}
+use Rattle.spfc_top.specs.Findings.{PolicyDue, not_yet, published, IsDue, IsBest}
+use Rattle.zone_answers.specs.Zone.{Zone}
 use Rattle.spfc_top.specs.Ends.{Given, IsOutput, IsBestOutput}
 
 refuses_not : {status : ℕ} {line bytes : List ℕ} → Gives bytes ≡ Refuses status line → ⊥
@@ -63,10 +66,15 @@ shortest_of domain terms bytes (written v4 v6 are fits is) = record {
   counted = list-counted v4 v6 (chosen_list v4 v6) (total v4 v6) refl refl;
 }
 
+best_of_policy : (domain : List ℕ) (zones : List Zone) (bytes : List ℕ) → PolicyDue domain zones (Gives bytes) → (terms : List FlatTerm) × Publishes zones domain terms × IsShortest domain terms bytes
+best_of_policy domain zones bytes (not_yet none is) = absurd (refuses_not is)
+best_of_policy domain zones bytes (published terms has due) = (terms, has, shortest_of domain terms bytes due)
+
 best_of_job : (job : Job) (held : Contents) (bytes : List ℕ) → IsDue job held (Gives bytes) → IsBest job held bytes
-best_of_job (Compile domain file) held bytes (no_file none is) = absurd (refuses_not is)
-best_of_job (Compile domain file) held bytes (not_yet contents has none is) = absurd (refuses_not is)
-best_of_job (Compile domain file) held bytes (read contents terms has form due) = (contents, terms, has, form, shortest_of domain terms bytes due)
+best_of_job (Compile domain words) held bytes (Ok zones, are, due) =
+    let best = best_of_policy domain zones bytes due in
+    (zones, best.0, are, best.1, best.2)
+best_of_job (Compile domain words) held bytes (Err line, are, due) = absurd (refuses_not due)
 
 pub best_output : (g : Given) (bytes : List ℕ) → IsOutput g bytes → IsBestOutput g bytes
 best_output g bytes is = record { job = is.job; is_job = is.is_job; is_best = λ t. best_of_job is.job g.held bytes (is.is_due t) }

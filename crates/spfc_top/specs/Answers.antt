@@ -1,16 +1,22 @@
--- specs/Answers.antt
 -- What is computed before anything is written.
-use Rattle.std.specs.Prelude.{ℕ, ◌≡◌, List, Some, ⊤, IsTrue, Bool}
+use Rattle.std.specs.Prelude.{ℕ, ◌≡◌, ◌<◌, ◌⊎◌, List, [], ◌++◌, length, Some, None, Ok, Err, Result, map, Contains, ⊤, IsTrue, Bool}
 use Rattle.std.specs.declared.option.Option.{Option}
 use Rattle.spfc_outer.specs.Causes.{Rose}
+use Rattle.master_reader.specs.declared.fault.Kind.{Kind}
+use Rattle.master_reader.specs.Readers.{StandsFor, DecidesFault}
+use Rattle.zone_answers.specs.Zone.{Zone}
+use Rattle.zone_answers.specs.declared.zones.LendFault.{LendFault}
 use Rattle.spf_grammar.specs.declared.flat.FlatTerm.{FlatTerm}
+use Rattle.spfc_words.specs.declared.zone_word.ZoneWord.{ZoneWord}
 use Rattle.spfc_top.specs.declared.answer.Answer.{Answer}
 use Rattle.spfc_top.specs.declared.answer.Answer.TheVariants.{Output, Usage, Refusal, ReadFault}
-use Rattle.spfc_top.specs.declared.compile.Stop.{Stop}
-use Rattle.spfc_top.specs.declared.compile.Stop.TheVariants as stop
-use Rattle.spfc_top.specs.Form.{IsForm}
+use Rattle.spfc_top.specs.declared.stop.Stop.{Stop}
+use Rattle.spfc_top.specs.declared.stop.Stop.TheVariants as stop
+use Rattle.spfc_top.specs.declared.reading.Taken.{Taken}
+use Rattle.spfc_top.specs.declared.reading.Progress.{Progress}
+use Rattle.spfc_top.specs.declared.reading.Progress.TheVariants.{Reads, Faulty}
 use Rattle.spfc_top.specs.Lines.{read_fault_line, too_big_line}
-use Rattle.spfc_top.specs.Findings.{FileDue}
+use Rattle.spfc_top.specs.Zones.{Contents, most_bytes, lend_line, ZoneWordsDue, words_before}
 use Rattle.spfc_top.specs.Due.{Refuses}
 use Rattle.spfc_top.specs.Compiled.{TermsDue, FitsAlone}
 use Rattle.spfc_top.specs.Ends.{Given, IsOutput, IsFinding, IsUsage, IsReadFault, IsFindingStatus}
@@ -21,23 +27,58 @@ IsAnswer g faults_before faults_after last_fault (Usage line) = IsUsage g line
 IsAnswer g faults_before faults_after last_fault (Refusal status line) = IsFindingStatus status × IsFinding g status line
 IsAnswer g faults_before faults_after last_fault (ReadFault line) = IsReadFault g faults_before faults_after last_fault line
 
--- the file is held, and has these terms
-abbrev pub HasTerms : Option (List ℕ) → List FlatTerm → Type 0
-HasTerms held terms = (contents : List ℕ) × (held ≡ Some contents) × IsForm contents terms
+-- what the bytes of a file so far come to
+abbrev pub ComesTo : List (List ℕ) → List ℕ → Progress → Type 0
+ComesTo origin bytes (Reads reader) = StandsFor origin reader bytes
+ComesTo origin bytes (Faulty line kind) = DecidesFault origin bytes line kind
 
--- why the domain's file gives no output
-abbrev pub StopsFile : Bool → (domain file : List ℕ) → Option (List ℕ) → ℕ → ℕ → Option (List ℕ) → Stop → Type 0
-StopsFile told domain file held faults_before faults_after last_fault (stop.Refusal status line) =
-    IsFindingStatus status × (IsTrue told → FileDue domain file held (Refuses status line))
-StopsFile told domain file held faults_before faults_after last_fault (stop.ReadFault line) =
-    (line ≡ read_fault_line file) × Rose faults_before faults_after × (IsTrue told → last_fault ≡ Some file)
-StopsFile told domain file held faults_before faults_after last_fault stop.Memory = ⊤
+-- so much of a file was read, and this is what it comes to
+abbrev pub HasTaken : List (List ℕ) → List ℕ → Taken → Type 0
+HasTaken origin bytes taken = (taken.count ≡ length bytes) × ComesTo origin bytes taken.progress
+
+-- the file was read to its end, or past the most that a file may have
+abbrev pub EndsTaken : List (List ℕ) → (contents : List ℕ) → Taken → Type 0
+EndsTaken origin contents taken =
+    (bytes behind : List ℕ) × (contents ≡ bytes ++ behind) × HasTaken origin bytes taken × ((behind ≡ []) ⊎ (most_bytes < length bytes))
+
+-- the same of a file that may not tell its contents
+abbrev pub HasRead : Bool → List (List ℕ) → (contents : List ℕ) → Taken → Type 0
+HasRead told origin contents taken = (whole : List ℕ) × EndsTaken origin whole taken × (IsTrue told → whole ≡ contents)
+
+-- what was read of a file of this name: none such is held, or its contents were read
+abbrev pub HasLoaded : Bool → List (List ℕ) → (held : Option (List ℕ)) → Option Taken → Type 0
+HasLoaded told origin held None = IsTrue told → held ≡ None
+HasLoaded told origin held (Some taken) = (contents : List ℕ) × EndsTaken origin contents taken × (IsTrue told → held ≡ Some contents)
+
+-- why a step stops: a refusal as it is due, a read fault as it may come, or want of memory
+abbrev pub StopsBy : (ℕ → List ℕ → Type 0) → (List ℕ → Type 0) → Stop → Type 0
+StopsBy Refused Faulted (stop.Refusal status line) = IsFindingStatus status × Refused status line
+StopsBy Refused Faulted (stop.ReadFault line) = Faulted line
+StopsBy Refused Faulted stop.Memory = ⊤
+
+-- a refusal of a zone word or of several
+abbrev pub RefusedBy : {A : Type 0} → (Result A (List ℕ) → Type 0) → ℕ → List ℕ → Type 0
+RefusedBy Comes status line = (status ≡ 3) × Comes (Err line)
+
+-- the file's calls failed
+abbrev pub FaultOf : Bool → (file : List ℕ) → ℕ → ℕ → Option (List ℕ) → List ℕ → Type 0
+FaultOf told file before after last line = (line ≡ read_fault_line file) × Rose before after × (IsTrue told → last ≡ Some file)
+
+-- the calls of the file of one of the zone words failed, and those before its first place come to zones
+abbrev pub FaultAmong : Bool → Contents → List ZoneWord → ℕ → ℕ → Option (List ℕ) → List ℕ → Type 0
+FaultAmong told held words before after last line =
+    (name : List ℕ) × Contains (map (λ word. word.file) words) name × FaultOf told name before after last line
+    × (IsTrue told → (zones : List Zone) × ZoneWordsDue held [] (words_before name words) (Ok zones))
+
+-- how a fault in lending stops the job: by its line, or without one by want of memory
+abbrev pub IsStopOf : (origin : List (List ℕ)) → LendFault → Stop → Type 0
+IsStopOf origin why (stop.Refusal status line) = (status ≡ 3) × (lend_line origin why ≡ Some line)
+IsStopOf origin why (stop.ReadFault line) = ⊥
+IsStopOf origin why stop.Memory = ⊤
 
 -- why the terms give no output
 abbrev pub StopsTerms : (domain : List ℕ) → List FlatTerm → Stop → Type 0
-StopsTerms domain terms (stop.Refusal status line) = IsFindingStatus status × TermsDue domain terms (Refuses status line)
-StopsTerms domain terms (stop.ReadFault line) = ⊥
-StopsTerms domain terms stop.Memory = ⊤
+StopsTerms domain terms = StopsBy (λ status line. TermsDue domain terms (Refuses status line)) (λ line. ⊥)
 
 -- it is no read fault
 abbrev pub IsNoFault : Stop → Type 0
@@ -53,6 +94,4 @@ IsNoReadFault (ReadFault line) = ⊥
 
 -- the list does not fit as one record
 abbrev pub IsTooBig : (domain : List ℕ) → List FlatTerm → Stop → Type 0
-IsTooBig domain list (stop.Refusal status line) = (status ≡ 2) × (line ≡ too_big_line) × ¬ FitsAlone domain list
-IsTooBig domain list (stop.ReadFault line) = ⊥
-IsTooBig domain list stop.Memory = ⊤
+IsTooBig domain list = StopsBy (λ status line. (status ≡ 2) × (line ≡ too_big_line) × ¬ FitsAlone domain list) (λ line. ⊥)

@@ -1,9 +1,9 @@
--- specs/Lib.antt
 pub mod Answers
 pub mod Compiled
 pub mod Due
 pub mod Ended
 pub mod Ends
 pub mod Findings
-pub mod Form
 pub mod Lines
+pub mod Published
+pub mod Zones

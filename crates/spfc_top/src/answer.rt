@@ -3,7 +3,8 @@ ghost use Rattle.std.specs.Prelude.{IfOk, IsTrue, ◌≤◌};
 ghost use Rattle.spfc_top.specs.Answers.{IsAnswer, IsNoReadFault};
 ghost use Rattle.spfc_top.specs.Ends.{given};
 
-use crate::compile::{Stop, compile};
+use crate::compile::compile;
+use crate::stop::Stop;
 use crate::text::line;
 use addr_bits::Bytes;
 use spfc_outer::Files;
@@ -36,8 +37,8 @@ pub(crate) fn answer_words<F: Files>(
 {
     match read_words(alloc, words)? {
         None => Ok(Answer::Usage(line(alloc, "usage", b"")?)),
-        Some(Job::Compile { domain, file }) => {
-            match compile(alloc, files, domain.as_slice(), file.as_slice()) {
+        Some(Job::Compile { domain, zones }) => {
+            match compile(alloc, files, domain.as_slice(), zones.as_slice()) {
                 Ok(output) => Ok(Answer::Output(output)),
                 Err(Stop::Refusal { status, line }) => Ok(Answer::Refusal { status, line }),
                 Err(Stop::ReadFault { line }) => Ok(Answer::ReadFault(line)),

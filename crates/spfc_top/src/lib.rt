@@ -3,8 +3,11 @@
 
 mod answer;
 mod compile;
-mod form;
 mod laws;
+mod lending;
+mod published;
+mod reading;
+mod stop;
 mod text;
 mod top;
 mod verdicts;

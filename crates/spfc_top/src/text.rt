@@ -1,8 +1,11 @@
 //! Lines for the standard error.
-ghost use Rattle.std.specs.Prelude.{◌≡◌, IfOk};
-ghost use Rattle.spfc_top.specs.Lines.{line_of};
+ghost use Rattle.std.specs.Prelude.{◌≡◌, ◌++◌, ◌∷◌, IfOk, OnOk};
+ghost use Rattle.spfc_top.specs.Lines.{line_of, kind_word, bad_zone_line, too_many_line, alias_and_other_line};
 
 use addr_bits::Bytes;
+use dns_name::Name;
+use itoa::Buffer;
+use master_reader::Kind;
 use std::alloc::{AllocError, Global};
 
 /// A line of these two parts.
@@ -14,4 +17,72 @@ pub(crate) fn line(alloc: Global, head: &str, tail: &[u8]) -> Result<Bytes, Allo
     bytes.extend_from_slice(tail)?;
     bytes.push(b'\n')?;
     Ok(bytes)
+}
+
+// Appends a part behind a space.
+fn push_part(bytes: &mut Bytes, part: &[u8]) -> Result<(), AllocError>
+    ensures { OnOk result (bytes.new ≡ bytes.old ++ 32 ∷ part.now) }
+{
+    bytes.push(b' ')?;
+    bytes.extend_from_slice(part)
+}
+
+// The name of a kind of fault.
+fn kind_word(kind: Kind) -> &'static str
+    ensures { result.now ≡ kind_word kind }
+{
+    match kind {
+        Kind::OpenQuote => "OpenQuote",
+        Kind::OpenParen => "OpenParen",
+        Kind::StrayParen => "StrayParen",
+        Kind::BadEscape => "BadEscape",
+        Kind::NoOwner => "NoOwner",
+        Kind::BadName => "BadName",
+        Kind::BadTtl => "BadTtl",
+        Kind::Class => "Class",
+        Kind::NoType => "NoType",
+        Kind::BadData => "BadData",
+        Kind::LongText => "LongText",
+        Kind::Include => "Include",
+        Kind::Dname => "Dname",
+        Kind::TypeNumber => "TypeNumber",
+        Kind::UnknownDirective => "UnknownDirective",
+    }
+}
+
+/// The line of a file that has no reading.
+pub(crate) fn bad_zone(
+    alloc: Global,
+    file: &[u8],
+    number: u64,
+    kind: Kind,
+) -> Result<Bytes, AllocError>
+    ensures { IfOk result (λ bytes. bytes ≡ bad_zone_line file.now number kind) }
+{
+    let mut tail = Bytes::new(alloc);
+    tail.extend_from_slice(file)?;
+    push_part(&mut tail, Buffer::new().format(number).as_bytes())?;
+    push_part(&mut tail, kind_word(kind).as_bytes())?;
+    line(alloc, "bad zone ", tail.as_slice())
+}
+
+/// The line of a zone with which the records are too many.
+pub(crate) fn too_many(alloc: Global, origin: &Name) -> Result<Bytes, AllocError>
+    ensures { IfOk result (λ bytes. bytes ≡ too_many_line origin.now) }
+{
+    line(alloc, "too many records ", &origin.write_text(alloc)?)
+}
+
+/// The line of a zone that has an alias beside other records at the name.
+pub(crate) fn alias_and_other(
+    alloc: Global,
+    origin: &Name,
+    name: &Name,
+) -> Result<Bytes, AllocError>
+    ensures { IfOk result (λ bytes. bytes ≡ alias_and_other_line origin.now name.now) }
+{
+    let mut tail = Bytes::new(alloc);
+    tail.extend_from_slice(&origin.write_text(alloc)?)?;
+    push_part(&mut tail, &name.write_text(alloc)?)?;
+    line(alloc, "alias and other ", tail.as_slice())
 }

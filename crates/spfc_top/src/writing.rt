@@ -4,7 +4,7 @@ ghost use Rattle.spfc_top.specs.Due.{Gives};
 ghost use Rattle.spfc_top.specs.Compiled.{TermsDue, FitsAlone, fragment_of_one};
 ghost use Rattle.spfc_top.specs.Answers.{StopsTerms, IsTooBig};
 
-use crate::compile::Stop;
+use crate::stop::Stop;
 use crate::text::line;
 use crate::verdicts::verdicts;
 use addr_bits::Bytes;
