@@ -1,5 +1,5 @@
 -- Which words spell which job. The form of the words is the project's own choice.
-use Rattle.std.specs.Prelude.{◌≡◌, ◌≢◌, ◌×◌, ℕ, ◌+◌, ◌<◌, ◌≤◌, ◌==◌, Bool, IsTrue, ◌||◌, List, [], ◌∷◌, length, map, Ok, nat_le, codes, String, string_bytes, bytes_eq, AllPairs}
+use Rattle.std.specs.Prelude.{◌≡◌, ◌≢◌, ℕ, ◌+◌, ◌<◌, ◌≤◌, ◌==◌, Bool, IsTrue, ◌||◌, List, ◌∷◌, length, map, Ok, nat_le, codes, String, string_bytes, bytes_eq, AllPairs}
 use Rattle.std.specs.List.{AllZip, list_all, slice_split, before_first, after_first}
 use Rattle.std.specs.Str.{str_to_ascii_lowercase}
 use Rattle.std.specs.declared.alloc.Global.{Global}

@@ -10,3 +10,6 @@ pub use job::Job;
 pub use laws::one_job;
 pub use read::read_words;
 pub use zone_word::{ZoneWord, ZoneWords};
+
+#[cfg(test)]
+mod tests;

@@ -21,10 +21,11 @@ pub fn read_words(alloc: Global, words: &[String]) -> Result<Option<Job>, AllocE
     ensures spelled { IfOk result (λ job. IfSome job (Spells (texts words.now))) }
     ensures none { IfOk result (λ job. IfNone job ((any : Job) → ¬ Spells (texts words.now) any)) }
 {
-    match words {
-        [command, domain, rest @ ..] if command.as_str() == "compile" => {
-            read_compile(alloc, domain.as_bytes(), rest)
-        }
+    let [command, domain, zones @ ..] = words else {
+        return Ok(None);
+    };
+    match command.as_str() {
+        "compile" => read_compile(alloc, domain.as_bytes(), zones),
         _ => Ok(None),
     }
 }

@@ -1,12 +1,12 @@
 //! Words that name a zone and its file.
-ghost use Rattle.std.specs.Prelude.{◌≡◌, ℕ, List, IfOk, MatchOption, bytes_eq};
-ghost use Rattle.std.specs.List.{list_all, list_any};
+ghost use Rattle.std.specs.Prelude.{◌≡◌, ◌==◌, ℕ, ◌<◌, List, length, IfOk, MatchOption, bytes_eq};
+ghost use Rattle.std.specs.List.{list_all, list_any, slice_split};
 ghost use Rattle.std.specs.Cmp.Lexicographic.{pointwise};
 ghost use Rattle.dns_name.specs.Name.{is_dot};
 ghost use Rattle.dns_name.specs.Parts.{without_final};
-ghost use Rattle.spf_macros.specs.Words.{is_word_byte, is_domain_label};
+ghost use Rattle.spf_macros.specs.Words as domains;
 ghost use Rattle.spfc_words.specs.Words as words;
-ghost use Rattle.spfc_words.specs.Words.{texts, IsOrigin, IsZoneWord, AreZoneWords};
+ghost use Rattle.spfc_words.specs.Words.{texts, origin_in, file_in, IsOrigin, IsZoneWord, AreZoneWords};
 
 use addr_bits::{Bytes, Items};
 use dns_name::Name;
@@ -59,18 +59,27 @@ fn has_origin(zones: &[ZoneWord], origin: &Name) -> bool
 fn read_zone(alloc: Global, word: &str) -> Result<Option<ZoneWord>, AllocError>
     ensures { IfOk result (λ zone. MatchOption zone ((any : ZoneWord) → ¬ IsZoneWord word.now any) (IsZoneWord word.now)) }
 {
-    let Some((origin, file)) = word.split_once('=') else {
+    let Some((origin, text)) = split_word(word) else {
         return Ok(None);
     };
+    let Some(origin) = read_origin(origin) else {
+        return Ok(None);
+    };
+    let mut file = Bytes::new(alloc);
+    file.extend_from_slice(text)?;
+    Ok(Some(ZoneWord { origin, file }))
+}
+
+// What stands before and behind the first `=`, where something stands behind it.
+fn split_word(word: &str) -> Option<(&[u8], &[u8])>
+    ensures { MatchOption result (length (file_in word.now) ≡ 0)
+        (λ parts. (parts.0.now ≡ origin_in word.now) × (parts.1.now ≡ file_in word.now) × (0 < length parts.1.now)) }
+{
+    let (origin, file) = word.split_once('=')?;
     if file.is_empty() {
-        return Ok(None);
+        return None;
     }
-    let Some(origin) = read_origin(origin.as_bytes()) else {
-        return Ok(None);
-    };
-    let mut name = Bytes::new(alloc);
-    name.extend_from_slice(file.as_bytes())?;
-    Ok(Some(ZoneWord { origin, file: name }))
+    Some((origin.as_bytes(), file.as_bytes()))
 }
 
 // The name that an origin writes (RFC 1034, section 3.1).
@@ -100,23 +109,30 @@ fn without_final_dot(text: &[u8]) -> &[u8]
 }
 
 fn are_labels(text: &[u8]) -> bool
-    ensures { result ≡ list_all is_domain_label (slice_split is_dot text.now) }
+    ensures { result ≡ list_all domains.is_domain_label (slice_split (λ b. b == 46) text.now) }
 {
-    text.split(|byte| *byte == b'.').all(is_label)
+    text.split(|byte| *byte == b'.')
+        .all(|label| is_label(label))
 }
 
 // A label of 1 to 63 letters, digits, hyphens and underscores that begins with no hyphen.
 fn is_label(label: &[u8]) -> bool
-    ensures { result ≡ is_domain_label label.now }
+    ensures { result ≡ domains.is_domain_label label.now }
 {
     if label.is_empty() || label.len() > 63 || label[0] == b'-' {
         return false;
     }
-    label.iter().all(|byte| is_word_byte(*byte))
+    are_word_bytes(label)
+}
+
+fn are_word_bytes(text: &[u8]) -> bool
+    ensures { result ≡ list_all domains.is_word_byte text.now }
+{
+    text.iter().all(|byte| is_word_byte(*byte))
 }
 
 fn is_word_byte(byte: u8) -> bool
-    ensures { result ≡ words.is_word_byte byte }
+    ensures { result ≡ domains.is_word_byte byte }
 {
     byte.is_ascii_alphanumeric() || byte == b'-' || byte == b'_'
 }
