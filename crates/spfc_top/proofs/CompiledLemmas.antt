@@ -40,6 +40,6 @@ pub chosen_stops : (domain : List ℕ) (terms : List FlatTerm) (v4 v6 : ℕ → 
     AreVerdicts terms v4 v6 → list ≡ chosen_list v4 v6 → IfErr r (IsTooBig domain list) → IfErr r (StopsTerms domain terms)
 chosen_stops domain terms v4 v6 list (Ok bytes) are is h = tt
 chosen_stops domain terms v4 v6 list (Err (stop.Refusal status line)) are is h =
-    (inr (inl h.0), too_big v4 v6 are (rw is at h.2) (ap (λ (s : ℕ). Refuses s line) h.0 ∙ ap (λ (l : List ℕ). Refuses 2 l) h.1))
+    (h.0, too_big v4 v6 are (rw is at h.1.2) (ap (λ (s : ℕ). Refuses s line) h.1.0 ∙ ap (λ (l : List ℕ). Refuses 2 l) h.1.1))
 chosen_stops domain terms v4 v6 list (Err (stop.ReadFault line)) are is h = absurd h
 chosen_stops domain terms v4 v6 list (Err stop.Memory) are is h = tt

@@ -1,11 +1,12 @@
 -- One thing is due at most.
-use Rattle.std.proofs.Common.{◌≡◌, ℕ, List, [], ◌∷◌, map, Some, None, Ok, Err, Option, Result, refl, sym, ap, ◌∙◌, absurd}
+use Rattle.std.proofs.Common.{◌≡◌, ℕ, List, [], ◌∷◌, map, Some, None, Ok, Err, Option, Result, refl, sym, ap, ◌∙◌}
 use Rattle.dns_name.specs.Name.{name_of_text}
 use Rattle.zone_answers.specs.Zone.{Zone}
 use Rattle.zone_answers.specs.Answers.{answer_of}
 use Rattle.zone_answers.specs.declared.answer.QKind.TheVariants as kinds
 use Rattle.spf_grammar.specs.declared.verdict.Verdict.{Verdict}
 use Rattle.spf_grammar.specs.declared.flat.FlatTerm.{FlatTerm}
+use Rattle.addr_bits.proofs.Texts.{one_address}
 use Rattle.spf_grammar.proofs.OnePolicy.{one_policy}
 use Rattle.fewest_terms.proofs.Whole.{below_all}
 use Rattle.fewest_terms.specs.Chosen.{chosen_list}
@@ -21,8 +22,8 @@ use Rattle.spfc_top.specs.Published.{SpellsFlat, Publishes, spf_texts, flat_term
 use Rattle.spfc_top.specs.Findings.{PolicyDue, not_yet, published, ZonesDue, IsDue}
 use Rattle.spfc_top.specs.Ends.{usage, job, OneIsDue}
 use Rattle.spfc_top.proofs.SameVerdicts.{Agree, rows_same, total_same, chosen_list_same}
-use Rattle.spfc_top.proofs.Owed.{one_job}
-use Rattle.spfc_top.proofs.ZonesLemmas.{one_of_words}
+use Rattle.spfc_words.proofs.OneJob.{one_job}
+use Rattle.spfc_top.proofs.ZonesLemmas.{ok_twice, err_twice, ok_not, one_twice, one_of_words}
 
 -- ---- the terms come to one end
 agree_four : (terms : List FlatTerm) (v4 v6 w4 w6 : ℕ → Verdict) → AreVerdicts terms v4 v6 → AreVerdicts terms w4 w6 → Agree v4 w4 32 0
@@ -72,15 +73,9 @@ some_twice (x ∷ xs) (y ∷ ys) e = first (head e) (some_twice xs ys (tail e))
     tail : Some x ∷ map Some xs ≡ Some y ∷ map Some ys → map Some xs ≡ map Some ys
     tail e = cc
 
-ok_twice : {A E : Type 0} {found : Result A E} {a b : A} → found ≡ Ok a → found ≡ Ok b → a ≡ b
-ok_twice p q = cc
-
-one_twice : {A : Type 0} {found : List A} {a b : A} → found ≡ a ∷ [] → found ≡ b ∷ [] → a ≡ b
-one_twice p q = cc
-
 one_flat : (text : List ℕ) (xs ys : List FlatTerm) → SpellsFlat text xs → SpellsFlat text ys → xs ≡ ys
 one_flat text xs ys a b =
-    let same : a.policy ≡ b.policy = one_policy text a.policy b.policy a.spelled b.spelled in
+    let same : a.policy ≡ b.policy = one_policy one_address text a.policy b.policy a.spelled b.spelled in
     some_twice xs ys (sym a.flat ∙ (ap (λ policy. map flat_term policy.terms) same ∙ b.flat))
 
 one_published : (zones : List Zone) (domain : List ℕ) (xs ys : List FlatTerm) → Publishes zones domain xs → Publishes zones domain ys → xs ≡ ys
@@ -100,23 +95,11 @@ one_of_policy domain zones x y (published terms has due) (published terms' has' 
 -- ---- and so do zone words, the job and the words
 one_behind : (held : Contents) (words : List ZoneWord) (Next : List Zone → Due → Type 0) (x y : Due) → ((zones : List Zone) (a b : Due) → Next zones a → Next zones b → a ≡ b)
     → ZonesDue held words Next x → ZonesDue held words Next y → x ≡ y
-one_behind held words Next x y one (Ok zones, a, n) (Ok zones', a', n') = one zones x y n (rw (ok_same (one_of_words held [] words _ _ a a')) n')
-  where
-    ok_same : {u v : List Zone} → Ok {List Zone} {List ℕ} u ≡ Ok v → u ≡ v
-    ok_same e = cc
-one_behind held words Next x y one (Ok zones, a, n) (Err line, a', n') = absurd (no (one_of_words held [] words _ _ a a'))
-  where
-    no : {u : List Zone} {l : List ℕ} → Ok {List Zone} {List ℕ} u ≡ Err l → ⊥
-    no e = cc
-one_behind held words Next x y one (Err line, a, n) (Ok zones, a', n') = absurd (no (one_of_words held [] words _ _ a a'))
-  where
-    no : {u : List Zone} {l : List ℕ} → Err {List Zone} {List ℕ} l ≡ Ok u → ⊥
-    no e = cc
+one_behind held words Next x y one (Ok zones, a, n) (Ok zones', a', n') = one zones x y n (rw (ok_twice (one_of_words held [] words _ _ a' a) refl) n')
+one_behind held words Next x y one (Ok zones, a, n) (Err line, a', n') = absurd (ok_not (one_of_words held [] words _ _ a a'))
+one_behind held words Next x y one (Err line, a, n) (Ok zones, a', n') = absurd (ok_not (one_of_words held [] words _ _ a' a))
 one_behind held words Next x y one (Err line, a, n) (Err line', a', n') =
-    n ∙ (ap (λ (l : List ℕ). Refuses 3 l) (err_same (one_of_words held [] words _ _ a a')) ∙ sym n')
-  where
-    err_same : {l m : List ℕ} → Err {List Zone} {List ℕ} l ≡ Err m → l ≡ m
-    err_same e = cc
+    n ∙ (ap (λ (l : List ℕ). Refuses 3 l) (err_twice refl (one_of_words held [] words _ _ a a')) ∙ sym n')
 
 one_of_job : (j : Job) (held : Contents) (x y : Due) → IsDue j held x → IsDue j held y → x ≡ y
 one_of_job (Compile domain words) held x y a b = one_behind held words _ x y (one_of_policy domain) a b

@@ -2,7 +2,10 @@ pub mod CompiledLemmas
 pub mod DeterminedLemmas
 pub mod DueLemmas
 pub mod EndedLemmas
+pub mod LendingLemmas
 pub mod Owed
+pub mod PublishedLemmas
+pub mod ReadingLemmas
 pub mod SameVerdicts
 pub mod ShortestLemmas
 pub mod ZonesLemmas

@@ -1,5 +1,5 @@
 -- owed
-use Rattle.std.proofs.Common.{◌≡◌, ◌×◌, ◌++◌, ℕ, List, Some, IsTrue}
+use Rattle.std.proofs.Common.{◌≡◌, ◌++◌, ℕ, List, Some, IsTrue}
 use Rattle.master_reader.specs.declared.fault.Kind.{Kind}
 use Rattle.master_reader.specs.declared.record.Record.{Record}
 use Rattle.master_reader.specs.Reading.{Reads, Faults}
@@ -7,8 +7,6 @@ use Rattle.master_reader.specs.Readers.{DecidesFault}
 use Rattle.zone_answers.specs.Zone.{Zone}
 use Rattle.zone_answers.specs.Lend.{AreLendable, IsRefused, IsLent}
 use Rattle.zone_answers.specs.declared.zones.LendFault.{LendFault}
-use Rattle.spfc_words.specs.declared.job.Job.{Job}
-use Rattle.spfc_words.specs.Words.{Spells}
 use Rattle.spfc_top.specs.Zones.{lend_line}
 
 pub reads_once : (zone : List (List ℕ)) (bytes : List ℕ) (r s : List Record) → Reads zone bytes r → Reads zone bytes s → r ≡ s
@@ -37,5 +35,3 @@ pub lent_not_refused : (zones : List Zone) (origin : List (List ℕ)) (records :
     → lend_line origin f ≡ Some a → ⊥
 lent_not_refused zones origin records f a x y p = ?
 
-pub one_job : (words : List (List ℕ)) (a b : Job) → Spells words a → Spells words b → a ≡ b
-one_job words a b p q = ?

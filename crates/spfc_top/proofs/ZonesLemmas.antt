@@ -1,5 +1,5 @@
 -- Zone words in order: what the first ones come to, and what the next one adds.
-use Rattle.std.proofs.Common.{◌≡◌, ◌<◌, ◌≤◌, ◌++◌, ℕ, Bool, not, List, [], ◌∷◌, Option, Some, None, Result, Ok, Err, true, false, refl, sym, ◌∙◌, ap, arith, absurd, bytes_eq, if◌then◌else◌}
+use Rattle.std.proofs.Common.{◌≡◌, ◌<◌, ◌≤◌, ◌++◌, ℕ, Bool, not, List, [], ◌∷◌, Option, Some, None, Result, Ok, Err, true, false, refl, sym, ◌∙◌, ap, arith, bytes_eq, if◌then◌else◌}
 use Rattle.master_reader.specs.declared.fault.Kind.{Kind}
 use Rattle.master_reader.specs.declared.record.Record.{Record}
 use Rattle.zone_answers.specs.Zone.{Zone}
@@ -9,29 +9,32 @@ use Rattle.spfc_top.specs.Zones.{Contents, FileDue, no_file, long_file, bad_zone
 use Rattle.spfc_top.specs.Lines.{bad_zone_line}
 use Rattle.spfc_top.proofs.Owed.{reads_once, faults_once, reads_no_fault, lend_once, lent_not_refused}
 
+pub ok_twice : {A E : Type 0} {found : Result A E} {a b : A} → found ≡ Ok a → found ≡ Ok b → a ≡ b
+ok_twice p q = cc
+
+pub err_twice : {A E : Type 0} {found : Result A E} {a b : E} → found ≡ Err a → found ≡ Err b → a ≡ b
+err_twice p q = cc
+
+pub ok_not : {A E : Type 0} {a : A} {e : E} → Ok a ≡ Err e → ⊥
+ok_not e = cc
+
+pub one_twice : {A : Type 0} {found : List A} {a b : A} → found ≡ a ∷ [] → found ≡ b ∷ [] → a ≡ b
+one_twice p q = cc
+
 -- ---- the next word
 
 -- where the first words come to zones, and the next one to this, they come to this together
 pub words_next : (held : Contents) (zones more : List Zone) (words : List ZoneWord) (word : ZoneWord) (behind : List ZoneWord) (found due : Result (List Zone) (List ℕ)) →
     ZoneWordsDue held zones words (Ok more) → WordDue held more word found → Then found (λ z. ZoneWordsDue held z behind) due → ZoneWordsDue held zones (words ++ word ∷ behind) due
-words_next held zones more [] word behind found due first next rest = (found, rw ok_same first at next, rest)
-  where
-    ok_same : {a b : List Zone} → Ok {List Zone} {List ℕ} a ≡ Ok b → a ≡ b
-    ok_same e = cc
+words_next held zones more [] word behind found due first next rest = (found, rw (← ok_twice first refl) at next, rest)
 words_next held zones more (w ∷ words) word behind found due (Ok z, is, first) next rest = (Ok z, is, words_next held z more words word behind found due first next rest)
-words_next held zones more (w ∷ words) word behind found due (Err line, is, first) next rest = absurd (no first)
-  where
-    no : {l : List ℕ} → Ok {List Zone} {List ℕ} more ≡ Err l → ⊥
-    no e = cc
+words_next held zones more (w ∷ words) word behind found due (Err line, is, first) next rest = absurd (ok_not first)
 
 -- the first words of some that come to zones come to zones
 pub words_front : (held : Contents) (zones more : List Zone) (words behind : List ZoneWord) → ZoneWordsDue held zones (words ++ behind) (Ok more) → (z : List Zone) × ZoneWordsDue held zones words (Ok z)
 words_front held zones more [] behind due = (zones, refl)
 words_front held zones more (w ∷ words) behind (Ok z, is, due) = let rest = words_front held z more words behind due in (rest.0, (Ok z, is, rest.1))
-words_front held zones more (w ∷ words) behind (Err line, is, due) = absurd (no due)
-  where
-    no : {l : List ℕ} → Ok {List Zone} {List ℕ} more ≡ Err l → ⊥
-    no e = cc
+words_front held zones more (w ∷ words) behind (Err line, is, due) = absurd (ok_not due)
 
 -- ---- they come to one end
 held_twice : {held : Option (List ℕ)} {a b : List ℕ} → held ≡ Some a → held ≡ Some b → a ≡ b
@@ -66,9 +69,9 @@ one_of_file held word x y (read c r has short reads is) (read c' r' has' short' 
     is ∙ (ap Ok (reads_once word.origin c r r' reads (rw (held_twice has' has) at reads')) ∙ sym is')
 
 one_of_lend : (zones : List Zone) (origin : List (List ℕ)) (records : List Record) (x y : Result (List Zone) (List ℕ)) → LendDue zones origin records x → LendDue zones origin records y → x ≡ y
-one_of_lend zones origin records x y (refused f a no p is) (refused g b no' q is') = is ∙ (ap Err (lend_once zones origin records f g a b no no' p q) ∙ sym is')
-one_of_lend zones origin records x y (refused f a no p is) (lent free is') = absurd (lent_not_refused zones origin records f a free no p)
-one_of_lend zones origin records x y (lent free is) (refused g b no q is') = absurd (lent_not_refused zones origin records g b free no q)
+one_of_lend zones origin records x y (refused f a bad p is) (refused g b bad' q is') = is ∙ (ap Err (lend_once zones origin records f g a b bad bad' p q) ∙ sym is')
+one_of_lend zones origin records x y (refused f a bad p is) (lent free is') = absurd (lent_not_refused zones origin records f a free bad p)
+one_of_lend zones origin records x y (lent free is) (refused g b bad q is') = absurd (lent_not_refused zones origin records g b free bad q)
 one_of_lend zones origin records x y (lent free is) (lent free' is') = is ∙ sym is'
 
 -- a step and then another one come to one end, if both do

@@ -40,7 +40,7 @@ fn lend(
     ensures lent { OnOk result (LendDue zones.old word.now.origin records (Ok zones.new)) }
     ensures stops { IfErr result (StopsBy (RefusedBy (LendDue zones.old word.now.origin records)) (λ line. ⊥)) }
 {
-    match zones.lend(word.origin.clone()?, records) {
+    match zones.lend(word.origin.clone().unwrap(), records) {
         Ok(()) => Ok(()),
         Err(fault) => Err(stop_of(alloc, &word.origin, fault)),
     }

@@ -1,5 +1,5 @@
 //! The policy that zones publish at a domain.
-ghost use Rattle.std.specs.Prelude.{◌≡◌, ◌≢◌, ℕ, List, [], ◌∷◌, map, Some, IfOk, MatchOption, option_to_list};
+ghost use Rattle.std.specs.Prelude.{◌≡◌, ◌≢◌, List, [], ◌∷◌, ◌++◌, map, Some, IfOk, OnOk, MatchOption};
 ghost use Rattle.std.specs.List.{concat};
 ghost use Rattle.zone_answers.specs.declared.answer.Answer.TheVariants as answers;
 ghost use Rattle.spf_grammar.specs.declared.flat.FlatTerm.{FlatTerm as Flat};
@@ -23,36 +23,30 @@ fn joined(alloc: Global, strings: &Text) -> Result<Bytes, AllocError>
     Ok(text)
 }
 
-// The SPF text of a record, if it has one.
-fn spf_text(alloc: Global, body: &Body) -> Result<Option<Bytes>, AllocError>
-    ensures { IfOk result (λ text. option_to_list text ≡ spf_texts (answers.Found (body.now ∷ []))) }
+// Appends the SPF text of a record, if it has one.
+fn push_spf_text(alloc: Global, texts: &mut Items<Bytes>, body: &Body) -> Result<(), AllocError>
+    ensures { OnOk result (texts.new ≡ texts.old ++ spf_texts (answers.Found (body.now ∷ []))) }
 {
     let Body::Txt(strings) = body else {
-        return Ok(None);
+        return Ok(());
     };
     let text = joined(alloc, strings)?;
     if is_spf(text.as_slice()) {
-        Ok(Some(text))
+        texts.push(text)
     } else {
-        Ok(None)
+        Ok(())
     }
 }
 
-// The one SPF text of the records; `None` where there is none, and where there are several.
-fn one_spf_text(alloc: Global, bodies: &[Body]) -> Result<Option<Bytes>, AllocError>
-    ensures { IfOk result (λ found. MatchOption found ((text : List ℕ) → spf_texts (answers.Found bodies.now) ≢ text ∷ [])
-        (λ text. spf_texts (answers.Found bodies.now) ≡ text ∷ [])) }
+// The SPF texts of the records.
+fn spf_texts(alloc: Global, bodies: &[Body]) -> Result<Items<Bytes>, AllocError>
+    ensures { IfOk result (λ texts. texts ≡ spf_texts (answers.Found bodies.now)) }
 {
-    let mut found = None;
+    let mut texts = Items::new(alloc);
     for body in bodies {
-        if let Some(text) = spf_text(alloc, body)? {
-            if found.is_some() {
-                return Ok(None);
-            }
-            found = Some(text);
-        }
+        push_spf_text(alloc, &mut texts, body)?;
     }
-    Ok(found)
+    Ok(texts)
 }
 
 // The term as a network with a verdict, if it is a directive of `ip4`, `ip6` or `all`.
@@ -113,8 +107,8 @@ pub(crate) fn published(
     let Answer::Found(bodies) = zones.answer(&name, QKind::Txt)? else {
         return Ok(None);
     };
-    match one_spf_text(alloc, bodies.as_slice())? {
-        Some(text) => flat_policy(alloc, text.as_slice()),
-        None => Ok(None),
+    match spf_texts(alloc, bodies.as_slice())?.as_slice() {
+        [text] => flat_policy(alloc, text.as_slice()),
+        _ => Ok(None),
     }
 }

@@ -70,6 +70,7 @@ impl Taken {
     fn take(self, piece: &[u8]) -> Result<Taken, AllocError>
         requires { self.count + length piece.now ≤ most_bytes + 1 }
         ensures count { IfOk result (λ taken. taken.count ≡ self.count + length piece.now) }
+        ensures within { IfOk result (λ taken. taken.count ≤ most_bytes + 1) }
         ensures taken { (origin : List (List ℕ)) (bytes : List ℕ) → HasTaken origin bytes self → IfOk result (HasTaken origin (bytes ++ piece.now)) }
     {
         let Taken { count, progress } = self;
