@@ -4,6 +4,7 @@
 mod fault;
 mod reader;
 mod record;
+mod words;
 
 pub use fault::{Kind, ZoneFault};
 pub use reader::{Reader, read_zone};
