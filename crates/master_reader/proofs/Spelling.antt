@@ -78,21 +78,3 @@ number_more units cap i n r h all before is =
   where
     sum : (v d b n r : ℕ) → d + 48 ≡ b → n ≡ min v cap → r ≡ min cap (10 * n + (b - 48)) → r ≡ min (v * 10 + d) cap
     sum v d b n r value before is = omega arith
-
--- ---- numbered words
-
-lower_take : (units : List Octet) (n : ℕ) → str_to_ascii_lowercase (bytes_in (take n units)) ≡ take n (str_to_ascii_lowercase (bytes_in units))
-lower_take units n = ap str_to_ascii_lowercase (sym (take-map (λ (o : Octet). o.byte) n units)) ∙ sym (take-map to_ascii_lowercase n (bytes_in units))
-
-pub too_short : (token : Token) (word : List ℕ) → length token.units < length word → false ≡ is_numbered_word token word
-too_short token word h =
-    ap (λ t. t && are_digits (drop (length word) (bytes_of token)))
-    (bytes_differ (take (length word) (str_to_ascii_lowercase (bytes_of token))) word (λ e. omega (arith, h, ap length e, length-lower token.units, length-take (length word) (str_to_ascii_lowercase (bytes_of token)))))
-
--- the word in front, and digits behind it
-pub numbered_from : (token : Token) (word : List ℕ) (front behind : List Octet) (a b : Bool) → front ≡ take (length word) token.units → behind ≡ drop (length word) token.units → a ≡ bytes_eq (str_to_ascii_lowercase (bytes_in front)) word → b ≡ are_digits (bytes_in behind)
-    → (a && b) ≡ is_numbered_word token word
-numbered_from token word front behind a b f g h k =
-    ap₂ (λ s t. s && t)
-    (h ∙ ap (λ l. bytes_eq l word) (ap (λ (l : List Octet). str_to_ascii_lowercase (bytes_in l)) f ∙ lower_take token.units (length word)))
-    (k ∙ ap are_digits (ap bytes_in g ∙ sym (drop-map (λ (o : Octet). o.byte) (length word) token.units)))

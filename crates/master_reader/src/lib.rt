@@ -2,6 +2,7 @@
 #![tactic(auto)]
 
 mod fault;
+mod names;
 mod reader;
 mod record;
 mod words;
