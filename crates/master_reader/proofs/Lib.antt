@@ -1,2 +1,3 @@
 pub mod Spelling
 pub mod Labels
+pub mod Groups

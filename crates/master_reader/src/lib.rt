@@ -5,6 +5,7 @@ mod fault;
 mod names;
 mod reader;
 mod record;
+mod ttl;
 mod words;
 
 pub use fault::{Kind, ZoneFault};
