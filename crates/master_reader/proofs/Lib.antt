@@ -1,3 +1,4 @@
 pub mod Spelling
 pub mod Labels
 pub mod Groups
+pub mod Bodies

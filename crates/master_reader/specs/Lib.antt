@@ -4,3 +4,4 @@ pub mod Entry
 pub mod Data
 pub mod Reading
 pub mod Readers
+pub mod Refusals

@@ -89,3 +89,32 @@ impl From<AllocError> for ZoneFault {
         ZoneFault::Memory
     }
 }
+
+/// Why an entry has no meaning: a fault of its own, or want of memory.
+#[derive(Clone, Copy, Debug)]
+pub(crate) enum Refusal {
+    Faulty(Kind),
+    Memory,
+}
+
+impl From<AllocError> for Refusal {
+    ghost use Rattle.std.specs.Prelude.{◌≡◌};
+    ghost use Rattle.master_reader.specs.declared.fault.Refusal.TheVariants.{Memory};
+
+    ghost from_gives = { λ _ refusal. refusal ≡ Memory };
+
+    fn from(_: AllocError) -> Refusal {
+        Refusal::Memory
+    }
+}
+
+impl From<Kind> for Refusal {
+    ghost use Rattle.std.specs.Prelude.{◌≡◌};
+    ghost use Rattle.master_reader.specs.declared.fault.Refusal.TheVariants.{Faulty};
+
+    ghost from_gives = { λ kind refusal. refusal ≡ Faulty kind };
+
+    fn from(kind: Kind) -> Refusal {
+        Refusal::Faulty(kind)
+    }
+}

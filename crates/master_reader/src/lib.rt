@@ -1,6 +1,7 @@
 //! The records of a DNS master file (RFC 1035, section 5).
 #![tactic(auto)]
 
+mod data;
 mod fault;
 mod names;
 mod reader;
