@@ -2,3 +2,6 @@ pub mod Spelling
 pub mod Labels
 pub mod Groups
 pub mod Bodies
+pub mod Types
+pub mod Asked
+pub mod Once

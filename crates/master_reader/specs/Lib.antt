@@ -5,3 +5,5 @@ pub mod Data
 pub mod Reading
 pub mod Readers
 pub mod Refusals
+pub mod Asks
+pub mod Laws

@@ -6,7 +6,7 @@ ghost use Rattle.addr_bits.specs.Ip6.{SpellsIp6};
 ghost use Rattle.master_reader.specs.declared.record.Body.TheVariants as bodies;
 ghost use Rattle.master_reader.specs.Tokens as tokens;
 ghost use Rattle.master_reader.specs.Entry as entries;
-ghost use Rattle.master_reader.specs.Data.{only_bare, only_name, IsAddressBody, IsBody, is_preference, is_long_text, name_body, mx_body, txt_body, other_body};
+ghost use Rattle.master_reader.specs.Data.{only_bare, IsAddressBody, IsBody, is_preference, is_long_text, name_body, mx_body, txt_body, other_body};
 ghost use Rattle.master_reader.specs.Refusals.{RefusalIs};
 
 use crate::fault::{Kind, Refusal};
@@ -72,9 +72,9 @@ fn ip6_of(alloc: Global, content: &[Token]) -> Result<u128, Refusal>
     }
 }
 
-/// The name that is the whole content.
-fn only_name(origin: &Name, content: &[Token]) -> Result<Name, Kind>
-    ensures { result ≡ only_name origin.now content.now }
+/// The name, where there is one token alone.
+pub(crate) fn only_name(origin: &Name, content: &[Token]) -> Result<Name, Kind>
+    ensures { result ≡ entries.only_name origin.now content.now }
 {
     name_in(origin, only_token(content)?)
 }

@@ -3,6 +3,8 @@
 
 mod data;
 mod fault;
+pub mod laws;
+mod meaning;
 mod names;
 mod reader;
 mod record;
