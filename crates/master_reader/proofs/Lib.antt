@@ -5,3 +5,4 @@ pub mod Bodies
 pub mod Types
 pub mod Asked
 pub mod Once
+pub mod Taking

@@ -7,3 +7,4 @@ pub mod Readers
 pub mod Refusals
 pub mod Asks
 pub mod Laws
+pub mod Progress

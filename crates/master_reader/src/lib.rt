@@ -6,6 +6,7 @@ mod fault;
 pub mod laws;
 mod meaning;
 mod names;
+mod progress;
 mod reader;
 mod record;
 mod ttl;
