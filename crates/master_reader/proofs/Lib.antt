@@ -6,3 +6,4 @@ pub mod Types
 pub mod Asked
 pub mod Once
 pub mod Taking
+pub mod Feeding

@@ -137,7 +137,7 @@ faulty_once context entry other kind kind' blank tokens (inr f) (inr g) =
 
 -- ---- files
 
-nil_front : (a b : List ℕ) → a ++ b ≡ [] → a ≡ []
+pub nil_front : (a b : List ℕ) → a ++ b ≡ [] → a ≡ []
 nil_front [] b e = refl
 nil_front (x ∷ a) b e = absurd cc
 
