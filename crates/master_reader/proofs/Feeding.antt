@@ -48,9 +48,9 @@ open_not_spelled rest text after entry live is spells = by (spells (0 ∷ []))
         closes : text ≡ items_text s.items ++ 10 ∷ [] → ⊥
         closes feed =
             let runs : run still 0 [] Outside (text ++ after) ≡ closed (tokens_of s.items) after =
-                ap (λ (t : List ℕ). run still 0 [] Outside (t ++ after)) feed
-                ∙ ap (run still 0 [] Outside) (append_assoc (items_text s.items) (10 ∷ []) after)
-                ∙ items_run still good_still 0 [] s.items 0 (10 ∷ after) s.in_place (ends_at_feed s.items after)
+            ap (λ (t : List ℕ). run still 0 [] Outside (t ++ after)) feed
+            ∙ ap (run still 0 [] Outside) (append_assoc (items_text s.items) (10 ∷ []) after)
+            ∙ items_run still good_still 0 [] s.items 0 (10 ∷ after) s.in_place (ends_at_feed s.items after)
             in
             let both : alive ≡ closed (tokens_of s.items) after = sym live ∙ ap (run still 0 [] Outside) is ∙ runs in
             cc

@@ -145,7 +145,7 @@ first_group_is rest digits behind i at front back =
         let unit : is_unit (get_or behind 0 no_octet).byte ≡ true = ap (λ (l : List Octet). is_unit (get_or l 0 no_octet).byte) back ∙ ap (λ (o : Octet). is_unit o.byte) (get_or-drop i rest 0 no_octet) ∙ ap (λ n. is_unit (get_or rest n no_octet).byte) (add-zero i) ∙ hit in
         let none : list_any is_unit (bytes_in digits) ≡ false = ap (λ l. list_any is_unit (bytes_in l)) front ∙ any_unit (take i rest) ∙ list_any_none (λ (o : Octet). is_unit o.byte) (take i rest) (λ k d l. let few : k < i = omega (arith, length-take i rest) in ap (λ (o : Octet). is_unit o.byte) (get_or-take i rest k d few) ∙ (position-Some (λ (o : Octet). is_unit o.byte) rest i d at).2 k few) in
         let whole : rest ≡ digits ++ get_or behind 0 no_octet ∷ take (length behind - 1) (drop 1 behind) =
-            sym (take-append-drop i rest) ∙ ap₂ (λ (a b : List Octet). a ++ b) (sym front) (sym back ∙ split_one behind (omega (arith, ap length back, length-drop i rest))) in
+        sym (take-append-drop i rest) ∙ ap₂ (λ (a b : List Octet). a ++ b) (sym front) (sym back ∙ split_one behind (omega (arith, ap length back, length-drop i rest))) in
         record {
           cut = ap (λ l. groups_in (bytes_in l)) whole ∙ ap groups_in (map-append (λ (o : Octet). o.byte) digits (get_or behind 0 no_octet ∷ take (length behind - 1) (drop 1 behind))) ∙ first_group (bytes_in digits) (get_or behind 0 no_octet).byte (bytes_in (take (length behind - 1) (drop 1 behind))) none unit;
           group = group_is (bytes_in digits) (get_or behind 0 no_octet).byte unit;

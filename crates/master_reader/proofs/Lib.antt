@@ -7,3 +7,4 @@ pub mod Asked
 pub mod Once
 pub mod Taking
 pub mod Feeding
+pub mod Examples

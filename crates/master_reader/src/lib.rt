@@ -15,3 +15,6 @@ mod words;
 pub use fault::{Kind, ZoneFault};
 pub use reader::{Reader, read_zone};
 pub use record::{Body, Record, Records, Text};
+
+#[cfg(test)]
+mod tests;

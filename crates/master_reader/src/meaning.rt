@@ -31,8 +31,7 @@ pub(crate) enum Ask<'a> {
 fn is_dollar_word(token: &Token) -> bool
     ensures { result ≡ entries.is_dollar_word token.now }
 {
-    !token.quoted
-        && matches!(token.units.as_slice(), [first, ..] if is_unescaped(*first, b'$'))
+    !token.quoted && matches!(token.units.as_slice(), [first, ..] if is_unescaped(*first, b'$'))
 }
 
 /// Whether a token is a TTL.
@@ -73,8 +72,7 @@ fn directive_ask<'a>(origin: &Name, word: &Token, operands: &[Token]) -> Result<
 fn is_ttl_place(token: &Token) -> bool
     ensures { result ≡ entries.is_ttl_place token.now }
 {
-    is_bare(token)
-        && matches!(token.units.as_slice(), [first, ..] if first.byte.is_ascii_digit())
+    is_bare(token) && matches!(token.units.as_slice(), [first, ..] if first.byte.is_ascii_digit())
 }
 
 /// Whether a token is the class of the Internet (RFC 1035, section 3.2.4).
@@ -124,9 +122,7 @@ fn behind_ttl_and_class(tokens: &[Token]) -> Result<&[Token], Kind>
 fn are_type_bytes(units: &[Octet]) -> bool
     ensures { result ≡ list_all (λ (o : Octet). entries.is_type_byte o.byte) units.now }
 {
-    units
-        .iter()
-        .all(|octet| octet.byte.is_ascii_alphanumeric() || octet.byte == b'-')
+    units.iter().all(|octet| octet.byte.is_ascii_alphanumeric() || octet.byte == b'-')
 }
 
 /// Whether the first octet is a letter.

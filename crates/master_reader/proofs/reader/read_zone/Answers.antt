@@ -4,7 +4,6 @@ use Rattle.master_reader.specs.Readers.{StandsFor}
 use Rattle.master_reader.proofs.Feeding.{fault_of_whole}
 use Rattle.master_reader.proofs.reader.read_zone.Goals as goal
 
-
 pub returns-in_err-feed-clause-bad : goal.returns-in_err-feed-clause-bad
 returns-in_err-feed-clause-bad c =
     let p = err_from_is_err_and c.from_residual-in_err-feed.result c.from_residual-in_err-feed.ensures.1 in

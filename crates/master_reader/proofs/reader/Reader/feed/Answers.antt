@@ -39,13 +39,13 @@ loop-byte-preserved c = λ zone bytes h few.
     subst (λ (b : List ℕ). StandsFor zone (kept_with c.in_ok-next.next c.match-entry.progress) b) (sym (one_more bytes piece i c.loop-byte-test.true))
     (elim c.match-entry.branch [
       | in-Some+in_ok-take w ↦
-      let more = subst (λ (o : Option Entry). lex.StandsFor 1 c.in_ok-next.next ((bytes ++ take i piece) ++ get_or piece i 0 ∷ []) (s.given ++ option_to_list o)) w.in-Some.is taken in
-      subst (λ (p : Progress). StandsFor zone (kept_with c.in_ok-next.next p) ((bytes ++ take i piece) ++ get_or piece i 0 ∷ [])) (sym w.progress-is)
-      (takes_on zone c.loop-byte.cutter c.loop-byte.progress c.in_ok-next.next w.take.new.self (bytes ++ take i piece) (get_or piece i 0) w.in-Some.entry s more w.in_ok-take.ensures.taken)
+          let more = subst (λ (o : Option Entry). lex.StandsFor 1 c.in_ok-next.next ((bytes ++ take i piece) ++ get_or piece i 0 ∷ []) (s.given ++ option_to_list o)) w.in-Some.is taken in
+          subst (λ (p : Progress). StandsFor zone (kept_with c.in_ok-next.next p) ((bytes ++ take i piece) ++ get_or piece i 0 ∷ [])) (sym w.progress-is)
+          (takes_on zone c.loop-byte.cutter c.loop-byte.progress c.in_ok-next.next w.take.new.self (bytes ++ take i piece) (get_or piece i 0) w.in-Some.entry s more w.in_ok-take.ensures.taken)
       | in_default w ↦
-      let more = subst (λ (o : Option Entry). lex.StandsFor 1 c.in_ok-next.next ((bytes ++ take i piece) ++ get_or piece i 0 ∷ []) (s.given ++ option_to_list o)) w.in_default.is taken in
-      subst (λ (p : Progress). StandsFor zone (kept_with c.in_ok-next.next p) ((bytes ++ take i piece) ++ get_or piece i 0 ∷ [])) (sym w.progress-is)
-      (goes_on zone (kept_with c.loop-byte.cutter c.loop-byte.progress) c.in_ok-next.next (bytes ++ take i piece) (get_or piece i 0) s more)
+          let more = subst (λ (o : Option Entry). lex.StandsFor 1 c.in_ok-next.next ((bytes ++ take i piece) ++ get_or piece i 0 ∷ []) (s.given ++ option_to_list o)) w.in_default.is taken in
+          subst (λ (p : Progress). StandsFor zone (kept_with c.in_ok-next.next p) ((bytes ++ take i piece) ++ get_or piece i 0 ∷ [])) (sym w.progress-is)
+          (goes_on zone (kept_with c.loop-byte.cutter c.loop-byte.progress) c.in_ok-next.next (bytes ++ take i piece) (get_or piece i 0) s more)
     ])
 
 pub returns-clause-not_bad : goal.returns-clause-not_bad

@@ -31,11 +31,11 @@ reads c zone bytes h =
     let all = c.in_ok-entry.ensures.last 1 bytes s.given s.cut in
     elim c.match-branch-2.branch [
       | in-Some+in_ok-take w ↦
-      subst (λ (p : Progress). Reads zone bytes p.records) (sym w.progress-is)
-      (reads_last zone c.self.inside.cutter c.self.inside.progress w.take.new.self bytes w.in-Some.entry s (subst (λ (o : Option Entry). lex.AreAll 1 bytes (s.given ++ option_to_list o)) w.in-Some.is all) w.in_ok-take.ensures.taken)
+          subst (λ (p : Progress). Reads zone bytes p.records) (sym w.progress-is)
+          (reads_last zone c.self.inside.cutter c.self.inside.progress w.take.new.self bytes w.in-Some.entry s (subst (λ (o : Option Entry). lex.AreAll 1 bytes (s.given ++ option_to_list o)) w.in-Some.is all) w.in_ok-take.ensures.taken)
       | in_default w ↦
-      subst (λ (p : Progress). Reads zone bytes p.records) (sym w.progress-is)
-      (reads_all zone (kept_with c.self.inside.cutter c.self.inside.progress) bytes s (subst (λ (o : Option Entry). lex.AreAll 1 bytes (s.given ++ option_to_list o)) w.in_default.is all))
+          subst (λ (p : Progress). Reads zone bytes p.records) (sym w.progress-is)
+          (reads_all zone (kept_with c.self.inside.cutter c.self.inside.progress) bytes s (subst (λ (o : Option Entry). lex.AreAll 1 bytes (s.given ++ option_to_list o)) w.in_default.is all))
     ]
 
 pub returns-clause-reads : goal.returns-clause-reads
