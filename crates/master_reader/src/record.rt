@@ -7,7 +7,7 @@ use dns_name::Name;
 pub type Text = Items<Bytes>;
 
 /// What a record says of its owner.
-#[derive(Drop, Debug)]
+#[derive(Clone, Debug, Drop, PartialEq, Eq, Hash)]
 pub enum Body {
     /// The number of an IPv4 address (RFC 1035, section 3.4.1).
     A(u32),
@@ -32,7 +32,7 @@ pub enum Body {
 }
 
 /// A record: the name at which it stands, and what it says.
-#[derive(Drop, Debug)]
+#[derive(Clone, Debug, Drop, PartialEq, Eq, Hash)]
 pub struct Record {
     pub owner: Name,
     pub body: Body,
