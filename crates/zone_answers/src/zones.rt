@@ -1,59 +1,31 @@
 //! The lent zones.
 ghost use Rattle.std.specs.Prelude.{◌≡◌, [], IfOk, IfErr, OnOk, OnErr};
-ghost use Rattle.zone_answers.specs.Answers.{answer_of};
+ghost use Rattle.std.specs.Option.{option_copied};
+ghost use Rattle.zone_answers.specs.Answers.{answer_of, zone_of};
 ghost use Rattle.zone_answers.specs.Lend.{AreLendable, IsRefused, IsLent, with_zone};
 
 use crate::answer::{Answer, QKind};
+use crate::fault::LendFault;
+use crate::zone::LentZone;
 use dns_name::Name;
 use master_reader::Records;
 use std::alloc::{AllocError, Global};
 use std::marker::Model;
-use thiserror::Error;
-
-/// Why a zone is not lent.
-#[derive(Drop, Debug, Error)]
-pub enum LendFault {
-    /// A zone with this origin is lent.
-    #[error("the same origin")]
-    SameOrigin,
-
-    /// The different records of all zones, this one's among them, are more than 65,536: so many.
-    #[error("{count} records")]
-    TooMany { count: u64 },
-
-    /// A CNAME record stands beside another record of a type that is read at this name, the least such by its printed form.
-    #[error("an alias beside other records")]
-    AliasAndOther { name: Name },
-
-    /// There is no memory.
-    #[error("out of memory")]
-    Memory,
-}
-
-impl From<AllocError> for LendFault {
-    ghost use Rattle.zone_answers.specs.declared.zones.LendFault.TheVariants.{Memory};
-
-    ghost from_gives = { λ _ fault. fault ≡ Memory };
-
-    fn from(_: AllocError) -> LendFault {
-        LendFault::Memory
-    }
-}
 
 /// The lent zones, which contracts see as a list.
 #[derive(Drop, Debug)]
 pub struct Zones {
     alloc: Global,
-    zones: Vec<(Name, Records)>,
+    zones: Vec<LentZone>,
 }
 
 impl Model for Zones {
-    ghost use Rattle.std.specs.Prelude.{List, map};
+    ghost use Rattle.std.specs.Prelude.{List};
     ghost use Rattle.zone_answers.specs.Zone.{Zone};
 
     ghost Value = { List Zone };
 
-    ghost view = { λ a. map (λ z. record { origin = z.0; records = z.1 }) a.zones.items };
+    ghost view = { λ a. a.zones.items };
 }
 
 impl Zones {
@@ -77,6 +49,16 @@ impl Zones {
         ensures stays { OnErr result (self.new ≡ self.old) }
     {
         Err(LendFault::Memory)
+    }
+
+    /// The zone with the deepest origin at or above the name (RFC 1034, section 4.3.2, step 2).
+    fn zone_of(&self, name: &Name) -> Option<&LentZone>
+        ensures { option_copied result ≡ zone_of self.now name.now }
+    {
+        if let Some(zone) = self.zones.iter().find(|zone| zone.origin() == name) {
+            return Some(zone);
+        }
+        self.zone_of(&name.parent()?)
     }
 
     /// The answer to a question (RFC 1034, section 4.3.2, and RFC 4592), after at most 8 alias steps.

@@ -1,0 +1,201 @@
+//! One lent zone.
+ghost use Rattle.std.specs.Prelude.{◌≡◌, ℕ, ◌<◌, ◌≤◌, ◌^◌, List, [], ◌∷◌, length, filter, filter_map, sum_by, IfOk};
+ghost use Rattle.std.specs.Option.{option_copied};
+ghost use Rattle.dns_name.specs.Name.{IsName, IsUnder};
+ghost use Rattle.zone_answers.specs.Same.{distinct_records};
+ghost use Rattle.zone_answers.specs.Answers.{bodies_at, closest_above, is_cut_off, is_of, name_exists, node_of, target_of};
+ghost use Rattle.zone_answers.specs.Names.{other_len};
+ghost use Rattle.zone_answers.specs.Index.{first_of, has_delegation, has_record, places_from};
+ghost use Rattle.zone_answers.specs.Lend.{AreLendable, has_clash};
+
+use crate::answer::{Bodies, QKind};
+use crate::node::{Nodes, index_records};
+use dns_name::Name;
+use indexmap::IndexSet;
+use master_reader::{Body, Record};
+use std::alloc::{AllocError, Global};
+use std::marker::Model;
+
+/// A lent zone, which contracts see as its origin and its records, equal ones once, in order.
+#[derive(Drop, Debug)]
+pub(crate) struct LentZone {
+    origin: Name,
+    records: IndexSet<Record>,
+    nodes: Nodes,
+}
+
+impl Model for LentZone {
+    ghost use Rattle.zone_answers.specs.Zone.{Zone};
+    ghost use Rattle.zone_answers.specs.Index.{IsLentZone};
+
+    ghost Value = { Zone };
+
+    ghost view = { λ z. record { origin = z.origin; records = z.records.keys } };
+
+    ghost invariant = { λ z. IsLentZone (record { origin = z.origin; records = z.records.keys }) z.nodes.entries };
+}
+
+impl LentZone {
+    /// The zone of these records, each of which stands at or below the origin.
+    pub(crate) fn new(
+        alloc: Global,
+        origin: Name,
+        records: IndexSet<Record>,
+    ) -> Result<LentZone, AllocError>
+        requires lendable { AreLendable origin records.keys }
+        requires distinct { distinct_records records.keys ≡ records.keys }
+        requires few { length records.keys ≤ 65536 }
+        ensures { IfOk result (λ zone. zone ≡ record { origin = origin; records = records.keys }) }
+    {
+        let nodes = index_records(alloc, records.as_slice())?;
+        Ok(LentZone {
+            origin,
+            records,
+            nodes,
+        })
+    }
+
+    /// The name of the zone's top.
+    pub(crate) fn origin(&self) -> &Name
+        ensures { result.now ≡ self.now.origin }
+    {
+        &self.origin
+    }
+
+    /// How many different records the zone has.
+    pub(crate) fn len(&self) -> usize
+        ensures len { result ≡ length self.now.records }
+        ensures distinct { distinct_records self.now.records ≡ self.now.records }
+    {
+        self.records.len()
+    }
+
+    /// Whether a record stands at or below the name.
+    pub(crate) fn has_record(&self, name: &Name) -> bool
+        ensures { result ≡ has_record self.now.records name.now }
+    {
+        self.nodes.contains_key(name)
+    }
+
+    /// Whether the name is the origin, or a record stands at or below it (RFC 4592, section 2.2.2).
+    fn exists(&self, name: &Name) -> bool
+        ensures { result ≡ name_exists self.now name.now }
+    {
+        *name == self.origin || self.has_record(name)
+    }
+
+    /// Whether an NS record stands at the name.
+    fn delegates(&self, name: &Name) -> bool
+        ensures { result ≡ has_delegation self.now.records name.now }
+    {
+        match self.nodes.get(name) {
+            Some(node) => node.delegates,
+            None => false,
+        }
+    }
+
+    /// Whether the name, which lies at or below the origin, lies at or below a delegation (RFC 1034, section 4.3.2, step 3 b).
+    pub(crate) fn is_cut_off(&self, name: &Name) -> bool
+        requires { IsUnder name.now self.now.origin }
+        ensures { result ≡ is_cut_off self.now name.now }
+    {
+        if *name == self.origin {
+            return false;
+        }
+        if self.delegates(name) {
+            return true;
+        }
+        match name.parent() {
+            Some(above) => self.is_cut_off(&above),
+            None => false,
+        }
+    }
+
+    /// The deepest name above this one that exists (RFC 4592, section 3.3.1).
+    fn closest_above(&self, name: &Name) -> Name
+        ensures { result ≡ closest_above self.now name.now }
+    {
+        let Some(above) = name.parent() else {
+            return Name::root();
+        };
+        if self.exists(&above) {
+            return above;
+        }
+        self.closest_above(&above)
+    }
+
+    /// The name itself, or the wildcard that stands for it (RFC 4592, section 3.3.1).
+    pub(crate) fn node_of(&self, name: &Name) -> Result<Option<Name>, AllocError>
+        requires { IsName name.now }
+        ensures { IfOk result (λ node. node ≡ node_of self.now name.now) }
+    {
+        if self.exists(name) {
+            return Ok(Some(name.clone()?));
+        }
+        let Ok(wildcard) = self.closest_above(name).child(b"*") else {
+            return Ok(None);
+        };
+        Ok(if self.exists(&wildcard) {
+            Some(wildcard)
+        } else {
+            None
+        })
+    }
+
+    /// The places of the records at the name.
+    fn places(&self, name: &Name) -> &[usize]
+        ensures { result.now ≡ places_from 0 self.now.records name.now }
+    {
+        match self.nodes.get(name) {
+            Some(node) => node.places.as_slice(),
+            None => &[],
+        }
+    }
+
+    /// The target of the first CNAME record at the name.
+    pub(crate) fn alias(&self, name: &Name) -> Option<&Name>
+        ensures { option_copied result ≡ first_of (filter_map target_of (bodies_at self.now name.now)) }
+    {
+        for place in self.places(name) {
+            if let Some(record) = self.records.get_index(*place) {
+                if let Body::Cname(target) = &record.body {
+                    return Some(target);
+                }
+            }
+        }
+        None
+    }
+
+    /// The bodies of the records at the name that are of the kind, in order.
+    pub(crate) fn bodies(
+        &self,
+        alloc: Global,
+        name: &Name,
+        kind: QKind,
+    ) -> Result<Bodies, AllocError>
+        ensures { IfOk result (λ bodies. bodies ≡ filter (is_of kind) (bodies_at self.now name.now)) }
+    {
+        let mut bodies = Bodies::new(alloc);
+        for place in self.places(name) {
+            if let Some(record) = self.records.get_index(*place) {
+                if is_of(kind, &record.body) {
+                    bodies.push(record.body.clone()?)?;
+                }
+            }
+        }
+        Ok(bodies)
+    }
+}
+
+/// Whether the body is of the kind.
+fn is_of(kind: QKind, body: &Body) -> bool
+    ensures { result ≡ is_of kind body.now }
+{
+    matches!(
+        (kind, body),
+        (QKind::A, Body::A(_))
+            | (QKind::Aaaa, Body::Aaaa(_))
+            | (QKind::Mx, Body::Mx(_, _))
+            | (QKind::Txt, Body::Txt(_))
+    )
+}
