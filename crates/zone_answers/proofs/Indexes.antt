@@ -54,7 +54,7 @@ no_place-one place owner name is had rest places true t eu et k more = absurd (t
 no_place-one place owner name is had rest places false true eu et k more = absurd (true≢false (sym (under_itself owner name (same_true owner name et)) ∙ eu))
 no_place-one place owner name is had rest places false false eu et k more = more k
 
-no_place : (place : ℕ) (records : List Record) (name : List (List ℕ)) → has_record records name ≡ false → (places_from place records name ≡ []) × (has_delegation records name ≡ false)
+pub no_place : (place : ℕ) (records : List Record) (name : List (List ℕ)) → has_record records name ≡ false → (places_from place records name ≡ []) × (has_delegation records name ≡ false)
 no_place place [] name h = (refl, refl)
 no_place place (r ∷ records) name h =
     no_place-one place r.owner name (is_delegation r.body) (has_delegation records name) (has_record records name) (places_from (suc place) records name)

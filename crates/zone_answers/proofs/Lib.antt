@@ -1,2 +1,4 @@
 pub mod Nodes
 pub mod Indexes
+pub mod Cuts
+pub mod Places

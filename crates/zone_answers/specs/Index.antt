@@ -1,14 +1,15 @@
 -- How the names of a zone are found. All of it is the project's own.
-use Rattle.std.specs.Prelude.{◌≡◌, ℕ, suc, ◌≤◌, Bool, true, false, ◌&&◌, List, [], ◌∷◌, length, Option, Some, None, if◌then◌else◌}
+use Rattle.std.specs.Prelude.{◌≡◌, ℕ, suc, ◌≤◌, Bool, true, false, ◌&&◌, List, [], ◌∷◌, length, Option, Some, None, filter_map, slice_get, option_map, if◌then◌else◌}
 use Rattle.std.specs.List.{list_any}
 use Rattle.std.specs.Map.{lookup}
 use Rattle.std.specs.Option.{unwrap_or}
 use Rattle.dns_name.specs.Name.{is_under}
+use Rattle.master_reader.specs.declared.record.Body.{Body}
 use Rattle.master_reader.specs.declared.record.Record.{Record}
 use Rattle.zone_answers.specs.declared.node.Node.{Node}
 use Rattle.zone_answers.specs.Zone.{Zone}
 use Rattle.zone_answers.specs.Same.{same_name, distinct_records}
-use Rattle.zone_answers.specs.Answers.{is_delegation}
+use Rattle.zone_answers.specs.Answers.{is_delegation, target_of}
 use Rattle.zone_answers.specs.Lend.{AreLendable}
 
 -- the places of the records with this owner, where the first record of the list has this place
@@ -53,3 +54,16 @@ pub record IsLentZone (zone : Zone) (nodes : List (List (List ℕ) × Node)) : T
 abbrev pub first_of : {X : Type 0} → List X → Option X
 first_of [] = None
 first_of (x ∷ xs) = Some x
+
+-- the body of the record at the place
+abbrev pub body_at : List Record → ℕ → Option Body
+body_at records place = option_map (λ r. r.body) (slice_get records place)
+
+-- what the body is an alias for, if there is one
+abbrev pub target_in : Option Body → Option (List (List ℕ))
+target_in None = None
+target_in (Some body) = target_of body
+
+-- the bodies of the records at the places
+abbrev pub bodies_in : List Record → List ℕ → List Body
+bodies_in records places = filter_map (body_at records) places

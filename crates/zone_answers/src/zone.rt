@@ -5,7 +5,7 @@ ghost use Rattle.dns_name.specs.Name.{IsName, IsUnder};
 ghost use Rattle.zone_answers.specs.Same.{distinct_records};
 ghost use Rattle.zone_answers.specs.Answers.{bodies_at, closest_above, is_cut_off, is_of, name_exists, node_of, target_of};
 ghost use Rattle.zone_answers.specs.Names.{other_len};
-ghost use Rattle.zone_answers.specs.Index.{first_of, has_delegation, has_record, places_from};
+ghost use Rattle.zone_answers.specs.Index.{body_at, first_of, has_delegation, has_record, places_from, target_in};
 ghost use Rattle.zone_answers.specs.Lend.{AreLendable, has_clash};
 
 use crate::answer::{Bodies, QKind};
@@ -152,15 +152,32 @@ impl LentZone {
         }
     }
 
+    /// The body of the record at the place.
+    fn body(&self, place: usize) -> Option<&Body>
+        ensures { option_copied result ≡ body_at self.now.records place }
+    {
+        let found = self.records.get_index(place)?;
+        Some(&found.body)
+    }
+
+    /// The target of the record at the place, if it is a CNAME record.
+    fn target(&self, place: usize) -> Option<&Name>
+        ensures { option_copied result ≡ target_in (body_at self.now.records place) }
+    {
+        match self.body(place)? {
+            Body::Cname(target) => Some(target),
+            _ => None,
+        }
+    }
+
     /// The target of the first CNAME record at the name.
     pub(crate) fn alias(&self, name: &Name) -> Option<&Name>
         ensures { option_copied result ≡ first_of (filter_map target_of (bodies_at self.now name.now)) }
     {
-        for place in self.places(name) {
-            if let Some(record) = self.records.get_index(*place) {
-                if let Body::Cname(target) = &record.body {
-                    return Some(target);
-                }
+        let places = self.places(name);
+        for place in places {
+            if let Some(target) = self.target(*place) {
+                return Some(target);
             }
         }
         None
@@ -175,11 +192,12 @@ impl LentZone {
     ) -> Result<Bodies, AllocError>
         ensures { IfOk result (λ bodies. bodies ≡ filter (is_of kind) (bodies_at self.now name.now)) }
     {
+        let places = self.places(name);
         let mut bodies = Bodies::new(alloc);
-        for place in self.places(name) {
-            if let Some(record) = self.records.get_index(*place) {
-                if is_of(kind, &record.body) {
-                    bodies.push(record.body.clone()?)?;
+        for place in places {
+            if let Some(body) = self.body(*place) {
+                if is_of(kind, body) {
+                    bodies.push(copy_of(body)?)?;
                 }
             }
         }
@@ -198,4 +216,19 @@ fn is_of(kind: QKind, body: &Body) -> bool
             | (QKind::Mx, Body::Mx(_, _))
             | (QKind::Txt, Body::Txt(_))
     )
+}
+
+/// The same body.
+fn copy_of(body: &Body) -> Result<Body, AllocError>
+    ensures { IfOk result (λ copy. copy ≡ body.now) }
+{
+    match body {
+        Body::A(address) => Ok(Body::A(*address)),
+        Body::Aaaa(address) => Ok(Body::Aaaa(*address)),
+        Body::Mx(preference, exchange) => Ok(Body::Mx(*preference, exchange.clone()?)),
+        Body::Txt(strings) => Ok(Body::Txt(strings.clone()?)),
+        Body::Cname(target) => Ok(Body::Cname(target.clone()?)),
+        Body::Ns(server) => Ok(Body::Ns(server.clone()?)),
+        Body::Other => Ok(Body::Other),
+    }
 }
