@@ -6,6 +6,9 @@ use Rattle.std.specs.Option.{unwrap_or}
 use Rattle.dns_name.specs.Name.{is_under}
 use Rattle.master_reader.specs.declared.record.Body.{Body}
 use Rattle.master_reader.specs.declared.record.Record.{Record}
+use Rattle.zone_answers.specs.declared.answer.Answer.{Answer}
+use Rattle.zone_answers.specs.declared.answer.Step.{Step}
+use Rattle.zone_answers.specs.declared.answer.Step.TheVariants.{Known, Alias}
 use Rattle.zone_answers.specs.declared.node.Node.{Node}
 use Rattle.zone_answers.specs.Zone.{Zone}
 use Rattle.zone_answers.specs.Same.{same_name, distinct_records}
@@ -67,3 +70,8 @@ target_in (Some body) = target_of body
 -- the bodies of the records at the places
 abbrev pub bodies_in : List Record → List ℕ → List Body
 bodies_in records places = filter_map (body_at records) places
+
+-- the answer of a step, where an alias leads on as told
+abbrev pub outcome_of : (List (List ℕ) → Answer) → Step → Answer
+outcome_of follow (Known answer) = answer
+outcome_of follow (Alias target) = follow target

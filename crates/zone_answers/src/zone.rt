@@ -1,15 +1,17 @@
 //! One lent zone.
-ghost use Rattle.std.specs.Prelude.{◌≡◌, ℕ, ◌<◌, ◌≤◌, ◌^◌, List, [], ◌∷◌, length, filter, filter_map, sum_by, IfOk};
+ghost use Rattle.std.specs.Prelude.{◌≡◌, ℕ, ◌≤◌, List, length, filter, filter_map, sum_by, IfOk, IsFalse, MatchOption};
 ghost use Rattle.std.specs.Option.{option_copied};
-ghost use Rattle.dns_name.specs.Name.{IsName, IsUnder};
+ghost use Rattle.dns_name.specs.Name.{IsUnder};
 ghost use Rattle.zone_answers.specs.Same.{distinct_records};
 ghost use Rattle.zone_answers.specs.Answers.{bodies_at, closest_above, is_cut_off, is_of, name_exists, node_of, target_of};
 ghost use Rattle.zone_answers.specs.Names.{other_len};
 ghost use Rattle.zone_answers.specs.Index.{body_at, first_of, has_delegation, has_record, places_from, target_in};
-ghost use Rattle.zone_answers.specs.Lend.{AreLendable, has_clash};
+ghost use Rattle.zone_answers.specs.Lend.{AreLendable, IsLeastClash, has_clash};
 
 use crate::answer::{Bodies, QKind};
+use crate::clash::{clashes, lesser};
 use crate::node::{Nodes, index_records};
+use crate::text::other_len;
 use dns_name::Name;
 use indexmap::IndexSet;
 use master_reader::{Body, Record};
@@ -64,8 +66,7 @@ impl LentZone {
 
     /// How many different records the zone has.
     pub(crate) fn len(&self) -> usize
-        ensures len { result ≡ length self.now.records }
-        ensures distinct { distinct_records self.now.records ≡ self.now.records }
+        ensures { result ≡ length self.now.records }
     {
         self.records.len()
     }
@@ -126,12 +127,13 @@ impl LentZone {
 
     /// The name itself, or the wildcard that stands for it (RFC 4592, section 3.3.1).
     pub(crate) fn node_of(&self, name: &Name) -> Result<Option<Name>, AllocError>
-        requires { IsName name.now }
         ensures { IfOk result (λ node. node ≡ node_of self.now name.now) }
     {
         if self.exists(name) {
             return Ok(Some(name.clone()?));
         }
+        // A name has at most 255 octets, so `*` fits in front of each name above it.
+        let _labels = name.label_count();
         let Ok(wildcard) = self.closest_above(name).child(b"*") else {
             return Ok(None);
         };
@@ -181,6 +183,55 @@ impl LentZone {
             }
         }
         None
+    }
+
+    /// Whether a CNAME record stands at the name beside another one, or beside a record of a type that is read.
+    fn has_clash(&self, name: &Name) -> bool
+        ensures { result ≡ has_clash self.now name.now }
+    {
+        let Some(target) = self.alias(name) else {
+            return false;
+        };
+        let places = self.places(name);
+        for place in places {
+            if let Some(body) = self.body(*place) {
+                if clashes(target, body) {
+                    return true;
+                }
+            }
+        }
+        false
+    }
+
+    /// The least name at which records clash, by the order of printed names.
+    pub(crate) fn least_clash(&self, alloc: Global) -> Result<Option<Name>, AllocError>
+        ensures { IfOk result (λ least. MatchOption least ((owner : List (List ℕ)) → IsFalse (has_clash self.now owner)) (IsLeastClash self.now)) }
+    {
+        let names = self.nodes.keys().as_slice();
+        let mut least = None;
+        for name in names {
+            if self.has_clash(name) {
+                least = Some(lesser(alloc, least, name)?);
+            }
+        }
+        match least {
+            Some(name) => Ok(Some(name.clone()?)),
+            None => Ok(None),
+        }
+    }
+
+    /// The sum of the lengths of the joined texts at the name that are no SPF texts (RFC 7208, section 3.3).
+    pub(crate) fn other_text(&self, name: &Name) -> u64
+        ensures { result ≡ sum_by other_len (bodies_at self.now name.now) }
+    {
+        let places = self.places(name);
+        let mut octets = 0;
+        for place in places {
+            if let Some(body) = self.body(*place) {
+                octets += other_len(body);
+            }
+        }
+        octets
     }
 
     /// The bodies of the records at the name that are of the kind, in order.
