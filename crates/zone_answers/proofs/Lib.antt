@@ -4,3 +4,6 @@ pub mod Cuts
 pub mod Places
 pub mod Distinct
 pub mod Holding
+pub mod Counts
+pub mod Clashes
+pub mod Lending
