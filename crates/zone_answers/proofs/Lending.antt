@@ -1,5 +1,5 @@
 -- What lending a zone does.
-use Rattle.std.proofs.Common.{◌≡◌, ℕ, ◌+◌, ◌<◌, ◌≤◌, Bool, true, false, cond, ◌||◌, List, [], ◌∷◌, ◌++◌, length, sum_by, find, is_some, Option, Some, None, IsTrue, IsFalse, refl, sym, ap, ap₂, subst, ◌∙◌, true≢false, arith}
+use Rattle.std.proofs.Common.{◌≡◌, ℕ, ◌+◌, ◌<◌, ◌≤◌, Bool, true, false, cond, ◌||◌, MatchOption, List, [], ◌∷◌, ◌++◌, length, sum_by, find, is_some, Option, Some, None, IsTrue, IsFalse, refl, sym, ap, ap₂, subst, ◌∙◌, true≢false, arith}
 use Rattle.std.specs.List.{list_any, AllByRecursion}
 use Rattle.std.proofs.lemmas.List.Sums.{sum_by-append, sum_by-cons}
 use Rattle.std.proofs.lemmas.List.Folds.{list_any-append}
@@ -9,7 +9,7 @@ use Rattle.dns_name.proofs.Octets.{all_append}
 use Rattle.master_reader.specs.declared.record.Record.{Record}
 use Rattle.zone_answers.specs.Zone.{Zone}
 use Rattle.zone_answers.specs.Same.{same_name, distinct_records, records_in}
-use Rattle.zone_answers.specs.Lend.{AreLendable, AreZones, HaveOrigins, IsBodyFit, has_origin, with_zone, has_clash, IsLent}
+use Rattle.zone_answers.specs.Lend.{AreLendable, AreZones, HaveOrigins, IsBodyFit, has_origin, with_zone, has_clash, IsLent, IsLeastClash}
 use Rattle.zone_answers.proofs.Distinct.{all_distinct, distinct_twice}
 
 pub origin_found : (zones : List Zone) (origin : List (List ℕ)) → is_some (find (λ z. same_name z.origin origin) zones) ≡ has_origin zones origin
@@ -55,3 +55,12 @@ zones_more zones more zone origin records z new lendable room is e =
       distinct = all_append (λ y. distinct_records y.records ≡ y.records) zones _ z.distinct (distinct_twice records, tt);
       room = room;
     })
+
+-- the new zone as the code has it, and what was found of its clashes
+pub clash_of : (zone new : Zone) (least : Option (List (List ℕ))) (name : List (List ℕ)) → zone ≡ new → least ≡ Some name → MatchOption least ((owner : List (List ℕ)) → has_clash zone owner ≡ false) (IsLeastClash zone) → IsLeastClash new name
+clash_of zone new least name z e h =
+    subst (λ (y : Zone). IsLeastClash y name) z (subst (λ (o : Option (List (List ℕ))). MatchOption o ((owner : List (List ℕ)) → has_clash zone owner ≡ false) (IsLeastClash zone)) e h)
+
+pub no_clash_of : (zone new : Zone) (least : Option (List (List ℕ))) → zone ≡ new → least ≡ None → MatchOption least ((owner : List (List ℕ)) → has_clash zone owner ≡ false) (IsLeastClash zone) → (owner : List (List ℕ)) → has_clash new owner ≡ false
+no_clash_of zone new least z e h =
+    subst (λ (y : Zone). (owner : List (List ℕ)) → has_clash y owner ≡ false) z (subst (λ (o : Option (List (List ℕ))). MatchOption o ((owner : List (List ℕ)) → has_clash zone owner ≡ false) (IsLeastClash zone)) e h)

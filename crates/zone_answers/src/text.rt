@@ -1,5 +1,5 @@
 //! The joined strings of TXT records (RFC 7208, section 3.3).
-ghost use Rattle.std.specs.Prelude.{◌≡◌, ◌+◌, ◌≤◌, length, sum_by, take};
+ghost use Rattle.std.specs.Prelude.{◌≡◌, ◌+◌, ◌≤◌, ◌++◌, length, sum_by, take};
 ghost use Rattle.std.specs.List.{concat};
 ghost use Rattle.zone_answers.specs.Lend.{IsBodyFit};
 ghost use Rattle.zone_answers.specs.Names.{other_len};
@@ -29,14 +29,21 @@ fn first_octets(strings: &Text) -> ArrayVec<u8, 7>
 {
     let mut octets = ArrayVec::new();
     for string in strings.as_slice() {
-        for octet in string.as_slice() {
-            if octets.is_full() {
-                return octets;
-            }
-            octets.push(*octet);
-        }
+        push_octets(&mut octets, string.as_slice());
     }
     octets
+}
+
+/// Appends octets as far as there is room.
+fn push_octets(octets: &mut ArrayVec<u8, 7>, string: &[u8])
+    ensures { octets.new.items ≡ take 7 (octets.old.items ++ string.now) }
+{
+    for octet in string {
+        if octets.is_full() {
+            return;
+        }
+        octets.push(*octet);
+    }
 }
 
 /// The length of the joined strings.
