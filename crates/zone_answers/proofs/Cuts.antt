@@ -139,3 +139,10 @@ star_fits zone name fault n e = let f : Err fault ≡ Ok ((42 ∷ []) ∷ closes
 pub parent_shorter : (name above : List (List ℕ)) → parent_of name ≡ Some above → length above < length name
 parent_shorter [] above p = absurd cc
 parent_shorter (label ∷ rest) above p = let e : rest ≡ above = cc in omega (arith, ap length e)
+
+there_is : (h : Bool) (node found : Node) → Some found ≡ (if h then Some node else None) → found ≡ node
+there_is true node found e = cc
+there_is false node found e = absurd cc
+
+pub node_is : (records : List Record) (nodes : List (List (List ℕ) × Node)) (name : List (List ℕ)) (found : Node) → IsIndex records nodes → Some found ≡ at nodes name → found ≡ summary records name
+node_is records nodes name found index e = there_is (has_record records name) (summary records name) found (e ∙ index.at name)

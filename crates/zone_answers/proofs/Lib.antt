@@ -7,3 +7,4 @@ pub mod Holding
 pub mod Counts
 pub mod Clashes
 pub mod Lending
+pub mod Texts

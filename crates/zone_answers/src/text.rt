@@ -36,6 +36,7 @@ fn first_octets(strings: &Text) -> ArrayVec<u8, 7>
 
 /// Appends octets as far as there is room.
 fn push_octets(octets: &mut ArrayVec<u8, 7>, string: &[u8])
+    requires { length octets.old.items ≤ 7 }
     ensures { octets.new.items ≡ take 7 (octets.old.items ++ string.now) }
 {
     for octet in string {

@@ -1,12 +1,12 @@
 //! One lent zone.
-ghost use Rattle.std.specs.Prelude.{◌≡◌, ℕ, ◌≤◌, List, length, filter, filter_map, sum_by, IfOk, IsFalse, MatchOption};
+ghost use Rattle.std.specs.Prelude.{◌≡◌, ℕ, ◌≤◌, List, length, filter, filter_map, sum_by, IfOk, IfSome, IsFalse, MatchOption};
 ghost use Rattle.std.specs.Option.{option_copied};
 ghost use Rattle.dns_name.specs.Name.{IsUnder};
 ghost use Rattle.zone_answers.specs.Same.{distinct_records};
 ghost use Rattle.zone_answers.specs.Answers.{bodies_at, closest_above, is_cut_off, is_of, name_exists, node_of, target_of};
 ghost use Rattle.zone_answers.specs.Names.{other_len};
 ghost use Rattle.zone_answers.specs.Index.{body_at, first_of, has_delegation, has_record, places_from, target_in};
-ghost use Rattle.zone_answers.specs.Lend.{AreLendable, IsLeastClash, has_clash};
+ghost use Rattle.zone_answers.specs.Lend.{AreLendable, IsBodyFit, IsLeastClash, has_clash};
 
 use crate::answer::{Bodies, QKind};
 use crate::clash::{clashes, lesser};
@@ -146,7 +146,8 @@ impl LentZone {
 
     /// The places of the records at the name.
     fn places(&self, name: &Name) -> &[usize]
-        ensures { result.now ≡ places_from 0 self.now.records name.now }
+        ensures places { result.now ≡ places_from 0 self.now.records name.now }
+        ensures few { length result.now ≤ 65536 }
     {
         match self.nodes.get(name) {
             Some(node) => node.places.as_slice(),
@@ -156,7 +157,8 @@ impl LentZone {
 
     /// The body of the record at the place.
     fn body(&self, place: usize) -> Option<&Body>
-        ensures { option_copied result ≡ body_at self.now.records place }
+        ensures body { option_copied result ≡ body_at self.now.records place }
+        ensures fit { IfSome result (λ body. IsBodyFit body.now) }
     {
         let found = self.records.get_index(place)?;
         Some(&found.body)
