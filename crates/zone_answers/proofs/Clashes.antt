@@ -1,6 +1,6 @@
 -- Aliases beside other records.
-use Rattle.std.proofs.Common.{◌≡◌, ◌≢◌, ℕ, ◌+◌, ◌<◌, ◌≤◌, Bool, true, false, cond, not, ◌||◌, List, [], ◌∷◌, ◌++◌, length, take, drop, get_or, filter_map, Option, None, Some, IsSome, IfSome, IsTrue, IsFalse, refl, sym, ap, ap₂, subst, ◌∙◌, true≢false, arith, inl, inr, ◌⊎◌, map, filter, MatchOption, All, Contains, is_some, if◌then◌else◌}
-use Rattle.std.specs.List.{list_any, AllByRecursion}
+use Rattle.std.proofs.Common.{◌≡◌, ◌≢◌, ℕ, ◌+◌, ◌<◌, ◌≤◌, Bool, true, false, cond, not, ◌||◌, List, [], ◌∷◌, length, take, drop, get_or, filter_map, Option, None, Some, IsSome, IfSome, refl, sym, ap, ap₂, subst, ◌∙◌, true≢false, arith, inl, inr, ◌⊎◌, map, filter, MatchOption, All, Contains, is_some, if◌then◌else◌}
+use Rattle.std.specs.List.{list_any}
 use Rattle.std.specs.Option.{option_to_list}
 use Rattle.std.specs.declared.cmp.Ordering.{Ordering}
 use Rattle.std.specs.declared.cmp.Ordering.TheVariants.{Less, Equal, Greater}
@@ -107,11 +107,11 @@ pub clash_found : (zone : Zone) (name target : List (List ℕ)) (places : List �
 clash_found zone name target places i body first is lt e h =
     let p : Body → Bool = bodies_clash (Cname target) in
     sym (sym (first_decides (bodies_at zone name) target first)
-        ∙ ap (list_any p) (sym (bodies_by_places zone places name is) ∙ bodies_behind zone.records places (i + 1))
-        ∙ list_any-append p (bodies_in zone.records (take (i + 1) places)) (bodies_in zone.records (drop (i + 1) places))
-        ∙ ap (λ b. b || list_any p (bodies_in zone.records (drop (i + 1) places)))
-        (ap (list_any p) (bodies_more zone.records places i (Some body) lt e) ∙ list_any-append p (bodies_in zone.records (take i places)) (body ∷ [])
-            ∙ or_right (list_any p (bodies_in zone.records (take i places))) (p body || false) (ap (λ b. b || false) h)))
+    ∙ ap (list_any p) (sym (bodies_by_places zone places name is) ∙ bodies_behind zone.records places (i + 1))
+    ∙ list_any-append p (bodies_in zone.records (take (i + 1) places)) (bodies_in zone.records (drop (i + 1) places))
+    ∙ ap (λ b. b || list_any p (bodies_in zone.records (drop (i + 1) places)))
+    (ap (list_any p) (bodies_more zone.records places i (Some body) lt e) ∙ list_any-append p (bodies_in zone.records (take i places)) (body ∷ [])
+    ∙ or_right (list_any p (bodies_in zone.records (take i places))) (p body || false) (ap (λ b. b || false) h)))
 
 pub clash_more : (records : List Record) (target : List (List ℕ)) (places : List ℕ) (i : ℕ) (o : Option Body) → i < length places → o ≡ body_at records (get_or places i 0)
     → list_any (bodies_clash (Cname target)) (option_to_list o) ≡ false
@@ -125,7 +125,7 @@ pub no_clash : (zone : Zone) (name target : List (List ℕ)) (places : List ℕ)
     → list_any (bodies_clash (Cname target)) (bodies_in zone.records (take i places)) ≡ false → false ≡ has_clash zone name
 no_clash zone name target places i first is le h =
     sym (sym (first_decides (bodies_at zone name) target first)
-        ∙ ap (list_any (bodies_clash (Cname target))) (sym (bodies_by_places zone places name is) ∙ sym (bodies_all zone.records places i le)) ∙ h)
+    ∙ ap (list_any (bodies_clash (Cname target))) (sym (bodies_by_places zone places name is) ∙ sym (bodies_all zone.records places i le)) ∙ h)
 
 -- ---- the lesser of two names
 
@@ -284,4 +284,4 @@ pub least_done : (zone held : Zone) (nodes : List (List (List ℕ) × Node)) (na
 least_done zone held nodes names least result i index is e le h r =
     subst (λ (o : Option (List (List ℕ))). MatchOption o ((owner : List (List ℕ)) → has_clash zone owner ≡ false) (IsLeastClash zone)) r
     (least_of_all zone nodes least i (subst (λ (z : Zone). IsIndex z.records nodes) is index) (omega (arith, le, ap length e)) h.0
-        (subst (λ (l : List (List (List ℕ))). All (AtMost zone least) (take i l)) e h.1))
+    (subst (λ (l : List (List (List ℕ))). All (AtMost zone least) (take i l)) e h.1))

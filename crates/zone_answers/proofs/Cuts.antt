@@ -1,5 +1,5 @@
 -- Delegations, wildcards and names that exist, over the list of records.
-use Rattle.std.proofs.Common.{◌≡◌, ◌≢◌, ℕ, suc, ◌+◌, ◌<◌, ◌≤◌, Bool, true, false, cond, not, ◌||◌, ◌&&◌, List, [], ◌∷◌, ◌++◌, length, map, Option, None, Some, Result, Ok, Err, refl, sym, ap, ap₂, subst, ◌∙◌, true≢false, arith, if◌then◌else◌, length-append}
+use Rattle.std.proofs.Common.{◌≡◌, ℕ, ◌<◌, Bool, true, false, not, ◌||◌, ◌&&◌, List, [], ◌∷◌, ◌++◌, length, None, Some, Ok, Err, refl, sym, ap, ap₂, subst, ◌∙◌, true≢false, arith, if◌then◌else◌, length-append}
 use Rattle.std.specs.List.{list_any}
 use Rattle.dns_name.specs.declared.fault.NameFault.{NameFault}
 use Rattle.dns_name.specs.Wire.{wire_form}
@@ -80,8 +80,8 @@ not_same b e = ap not e
 pub cut_here : (zone : Zone) (name : List (List ℕ)) → IsUnder name zone.origin → same_name name zone.origin ≡ false → has_delegation zone.records name ≡ true → is_cut_off zone name ≡ true
 cut_here zone name under apart h = any_also (λ r. same_name r.owner name && is_delegation r.body) (cuts zone name) zone.records
     (λ r. λ t. here-one (same_name r.owner name) (is_delegation r.body) (is_under name r.owner) (is_under r.owner zone.origin) (not (same_name r.owner zone.origin)) t
-        (λ s. let o : r.owner ≡ name = same_true r.owner name s in
-            (under_itself name r.owner (sym o), ap (λ (n : List (List ℕ)). is_under n zone.origin) o ∙ (under_decides name zone.origin).1 under, ap not (ap (λ (n : List (List ℕ)). same_name n zone.origin) o ∙ apart))))
+    (λ s. let o : r.owner ≡ name = same_true r.owner name s in
+    (under_itself name r.owner (sym o), ap (λ (n : List (List ℕ)). is_under n zone.origin) o ∙ (under_decides name zone.origin).1 under, ap not (ap (λ (n : List (List ℕ)). same_name n zone.origin) o ∙ apart))))
     h
 
 above-one : (d s u v w n : Bool) → (s && d) ≡ false → (s ≡ false → u ≡ v) → (d && u && w && n) ≡ (d && v && w && n)
@@ -95,7 +95,7 @@ cut_above zone (label ∷ rest) above p h =
     ap (is_cut_off zone) (sym (tail p))
     ∙ any_same (λ r. same_name r.owner (label ∷ rest) && is_delegation r.body) (cuts zone rest) (cuts zone (label ∷ rest)) zone.records h
     (λ r t. above-one (is_delegation r.body) (same_name r.owner (label ∷ rest)) (is_under rest r.owner) (is_under (label ∷ rest) r.owner) (is_under r.owner zone.origin) (not (same_name r.owner zone.origin)) t
-        (λ s. sym (parent_under label rest r.owner (λ e. same_not r.owner (label ∷ rest) s (sym e)))))
+    (λ s. sym (parent_under label rest r.owner (λ e. same_not r.owner (label ∷ rest) s (sym e)))))
   where
     tail : parent_of (label ∷ rest) ≡ Some above → rest ≡ above
     tail e = cc

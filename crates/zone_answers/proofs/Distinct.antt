@@ -1,8 +1,7 @@
 -- Records that come again.
-use Rattle.std.proofs.Common.{◌≡◌, ℕ, suc, Bool, true, false, refl, ◌||◌, ◌&&◌, not, cond, List, [], ◌∷◌, ◌++◌, filter, sym, ap, ap₂, ◌∙◌, if◌then◌else◌, Decides, bytes_eq, ◌==◌, true≢false, take, get_or, length, ◌<◌}
+use Rattle.std.proofs.Common.{◌≡◌, ℕ, Bool, true, false, refl, ◌||◌, ◌&&◌, not, cond, List, [], ◌∷◌, ◌++◌, filter, sym, ap, ap₂, ◌∙◌, if◌then◌else◌, ◌==◌, true≢false}
 use Rattle.std.specs.List.{list_any, AllByRecursion}
-use Rattle.std.specs.Cmp.Lexicographic.{pointwise, pointwise_decides, bytes_decides}
-use Rattle.std.proofs.lemmas.Bool.Decides.{Decides-eqb, same_from_decides}
+use Rattle.std.proofs.lemmas.Bool.Decides.{Decides-eqb}
 use Rattle.std.proofs.lemmas.List.Elements.{filter-append}
 use Rattle.master_reader.specs.declared.record.Body.{Body}
 use Rattle.master_reader.specs.declared.record.Body.TheVariants.{A, Aaaa, Mx, Txt, Cname, Ns, Other}

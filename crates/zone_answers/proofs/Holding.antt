@@ -1,16 +1,16 @@
 -- The zone that holds a name, and the steps of an answer.
-use Rattle.std.proofs.Common.{◌≡◌, ℕ, zero, suc, Bool, true, false, cond, ◌||◌, List, [], ◌∷◌, ◌++◌, find, filter_map, Option, None, Some, is_some, refl, sym, ap, ap₂, ◌∙◌, true≢false, Bor, option_copied}
+use Rattle.std.proofs.Common.{◌≡◌, ℕ, zero, suc, Bool, true, false, cond, ◌||◌, List, [], ◌∷◌, find, filter_map, Option, None, Some, is_some, refl, sym, ap, ap₂, ◌∙◌, Bor, option_copied}
 use Rattle.std.specs.List.{list_any}
-use Rattle.dns_name.specs.Name.{IsUnder, is_under, parent_of}
+use Rattle.dns_name.specs.Name.{IsUnder, is_under}
 use Rattle.master_reader.specs.declared.record.Body.{Body}
 use Rattle.master_reader.specs.declared.record.Body.TheVariants.{A, Aaaa, Mx, Txt, Cname, Ns, Other}
 use Rattle.zone_answers.specs.declared.answer.QKind.{QKind}
 use Rattle.zone_answers.specs.declared.answer.Answer.{Answer}
-use Rattle.zone_answers.specs.declared.answer.Answer.TheVariants.{Outside, NoName, NoData, Loop, Found}
+use Rattle.zone_answers.specs.declared.answer.Answer.TheVariants.{Loop}
 use Rattle.zone_answers.specs.Zone.{Zone}
 use Rattle.zone_answers.specs.Same.{same_name}
 use Rattle.zone_answers.specs.Answers.{zone_of, or_above, in_zone, answer_within, answer_of, target_of, bodies_at}
-use Rattle.zone_answers.specs.Names.{bodies_of, has_own_alias, is_taken, has_record_under, bodies_in as bodies_held}
+use Rattle.zone_answers.specs.Names.{has_own_alias, is_taken, has_record_under, bodies_in as bodies_held}
 use Rattle.zone_answers.specs.Index.{first_of}
 use Rattle.zone_answers.proofs.Nodes.{same_true}
 

@@ -1,7 +1,6 @@
 -- The index of a zone's records, one record at a time.
 use Rattle.std.proofs.Common.{◌≡◌, ℕ, suc, ◌+◌, Bool, true, false, cond, ◌||◌, ◌&&◌, List, [], ◌∷◌, ◌++◌, length, Option, None, Some, refl, sym, ap, ap₂, ◌∙◌, true≢false, arith, if◌then◌else◌, IsSome}
 use Rattle.std.specs.List.{list_any}
-use Rattle.std.specs.Option.{unwrap_or}
 use Rattle.dns_name.specs.Name.{is_under}
 use Rattle.dns_name.proofs.Names.{under_itself}
 use Rattle.master_reader.specs.declared.record.Record.{Record}

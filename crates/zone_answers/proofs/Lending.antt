@@ -1,6 +1,5 @@
 -- What lending a zone does.
-use Rattle.std.proofs.Common.{◌≡◌, ℕ, ◌+◌, ◌<◌, ◌≤◌, Bool, true, false, cond, ◌||◌, MatchOption, List, [], ◌∷◌, ◌++◌, length, sum_by, find, is_some, Option, Some, None, IsTrue, IsFalse, refl, sym, ap, ap₂, subst, ◌∙◌, true≢false, arith}
-use Rattle.std.specs.List.{list_any, AllByRecursion}
+use Rattle.std.proofs.Common.{◌≡◌, ℕ, ◌+◌, ◌≤◌, Bool, true, false, cond, ◌||◌, MatchOption, List, [], ◌∷◌, ◌++◌, length, find, is_some, Option, Some, None, refl, sym, ap, ap₂, subst, ◌∙◌, true≢false, arith}
 use Rattle.std.proofs.lemmas.List.Sums.{sum_by-append, sum_by-cons}
 use Rattle.std.proofs.lemmas.List.Folds.{list_any-append}
 use Rattle.dns_name.specs.Name.{IsUnder}
@@ -9,7 +8,7 @@ use Rattle.dns_name.proofs.Octets.{all_append}
 use Rattle.master_reader.specs.declared.record.Record.{Record}
 use Rattle.zone_answers.specs.Zone.{Zone}
 use Rattle.zone_answers.specs.Same.{same_name, distinct_records, records_in}
-use Rattle.zone_answers.specs.Lend.{AreLendable, AreZones, HaveOrigins, IsBodyFit, has_origin, with_zone, has_clash, IsLent, IsLeastClash}
+use Rattle.zone_answers.specs.Lend.{AreLendable, AreZones, HaveOrigins, IsBodyFit, has_origin, with_zone, has_clash, IsLeastClash}
 use Rattle.zone_answers.proofs.Distinct.{all_distinct, distinct_twice}
 
 pub origin_found : (zones : List Zone) (origin : List (List ℕ)) → is_some (find (λ z. same_name z.origin origin) zones) ≡ has_origin zones origin

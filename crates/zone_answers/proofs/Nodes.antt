@@ -1,13 +1,11 @@
 -- The names of a zone: one more name, and the names at or above it.
-use Rattle.std.proofs.Common.{◌≡◌, ℕ, Bool, true, false, cond, List, [], ◌∷◌, ◌++◌, Option, None, Some, is_some, refl, sym, ap, ◌∙◌, true≢false, Decides, arith}
+use Rattle.std.proofs.Common.{◌≡◌, ℕ, Bool, true, false, cond, List, [], ◌∷◌, Option, None, Some, is_some, refl, sym, ap, ◌∙◌, true≢false}
 use Rattle.std.specs.Map.{lookup}
-use Rattle.std.specs.Option.{unwrap_or}
 use Rattle.dns_name.specs.Name.{is_under, parent_of}
 use Rattle.dns_name.proofs.Names.{same_name_decides, under_itself, root_under, parent_under}
 use Rattle.zone_answers.specs.declared.node.Node.{Node}
 use Rattle.zone_answers.specs.Same.{same_name}
 use Rattle.zone_answers.specs.Index.{filled, empty_node}
-
 
 abbrev pub at : List (List (List ℕ) × Node) → List (List ℕ) → Option Node
 at nodes name = lookup (same_name name) nodes

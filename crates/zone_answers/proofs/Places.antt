@@ -1,5 +1,5 @@
 -- The bodies of a name's records, by their places.
-use Rattle.std.proofs.Common.{◌≡◌, ℕ, suc, ◌+◌, ◌<◌, ◌≤◌, Bool, true, false, cond, List, [], ◌∷◌, ◌++◌, length, map, filter, filter_map, take, drop, get_or, slice_get, option_map, Option, None, Some, refl, sym, ap, ap₂, ◌∙◌, arith, if◌then◌else◌, append_assoc, length-append, take-append-drop}
+use Rattle.std.proofs.Common.{◌≡◌, ℕ, suc, ◌+◌, ◌<◌, ◌≤◌, Bool, true, false, cond, List, [], ◌∷◌, ◌++◌, length, map, filter, filter_map, take, drop, get_or, option_map, Option, None, Some, refl, sym, ap, ap₂, ◌∙◌, arith, if◌then◌else◌, append_assoc, length-append, take-append-drop}
 use Rattle.std.specs.Option.{option_to_list}
 use Rattle.std.proofs.lemmas.List.{take_all, append-nil, take_more}
 use Rattle.std.proofs.lemmas.List.Elements.{filter_map-append, filter-append}
@@ -93,8 +93,8 @@ pub alias_found : (zone : Zone) (name : List (List ℕ)) (places : List ℕ) (i 
     → filter_map target_of (bodies_in zone.records (take i places)) ≡ [] → Some target ≡ first_of (filter_map target_of (bodies_at zone name))
 alias_found zone name places i target is lt e h =
     sym (ap (λ l. first_of (filter_map target_of l)) (sym (bodies_by_places zone places name is) ∙ bodies_behind zone.records places (i + 1))
-        ∙ ap first_of (filter_map-append target_of (bodies_in zone.records (take (i + 1) places)) (bodies_in zone.records (drop (i + 1) places)))
-        ∙ ap (λ (l : List (List (List ℕ))). first_of (l ++ filter_map target_of (bodies_in zone.records (drop (i + 1) places)))) (targets_more zone.records places i (Some target) lt e h))
+    ∙ ap first_of (filter_map-append target_of (bodies_in zone.records (take (i + 1) places)) (bodies_in zone.records (drop (i + 1) places)))
+    ∙ ap (λ (l : List (List (List ℕ))). first_of (l ++ filter_map target_of (bodies_in zone.records (drop (i + 1) places)))) (targets_more zone.records places i (Some target) lt e h))
 
 pub alias_none : (zone : Zone) (name : List (List ℕ)) (places : List ℕ) (i : ℕ) → places ≡ places_from 0 zone.records name → length places ≤ i
     → filter_map target_of (bodies_in zone.records (take i places)) ≡ [] → None ≡ first_of (filter_map target_of (bodies_at zone name))

@@ -1,12 +1,10 @@
 -- The joined strings of TXT records.
-use Rattle.std.proofs.Common.{◌≡◌, ℕ, zero, suc, ◌+◌, ◌*◌, ◌<◌, ◌≤◌, Bool, true, false, List, [], ◌∷◌, ◌++◌, length, take, drop, get_or, sum_by, slice_get, Option, None, Some, refl, sym, ap, ap₂, subst, ◌∙◌, arith, length-append, append_assoc, take-append-drop, if◌then◌else◌}
-use Rattle.std.specs.List.{concat, AllByRecursion}
-use Rattle.std.specs.Option.{option_to_list}
+use Rattle.std.proofs.Common.{◌≡◌, ℕ, zero, suc, ◌+◌, ◌<◌, ◌≤◌, Bool, true, false, List, [], ◌∷◌, ◌++◌, length, take, drop, get_or, sum_by, None, Some, refl, sym, ap, ap₂, subst, ◌∙◌, arith, length-append, append_assoc, take-append-drop, if◌then◌else◌}
+use Rattle.std.specs.List.{concat}
 use Rattle.std.proofs.lemmas.List.{take_all, take_more, append-nil}
 use Rattle.std.proofs.lemmas.List.Sums.{sum_by-append, sum_by-cons, sum_by-take-le}
 use Rattle.std.proofs.lemmas.List.Folds.{concat-append}
 use Rattle.spf_text.specs.Version.{is_spf_text}
-use Rattle.dns_name.specs.Name.{IsUnder}
 use Rattle.master_reader.specs.declared.record.Body.{Body}
 use Rattle.master_reader.specs.declared.record.Body.TheVariants.{Txt}
 use Rattle.master_reader.specs.declared.record.Record.{Record}
@@ -24,7 +22,7 @@ lengths_of strings = sum_by (λ s. length s) strings
 sum_more : (strings : List (List ℕ)) (i : ℕ) (s : List ℕ) → i < length strings → s ≡ get_or strings i s → lengths_of (take (i + 1) strings) ≡ lengths_of (take i strings) + length s
 sum_more strings i s lt e =
     let cut = ap lengths_of (take_more strings i s lt) ∙ sum_by-append (λ (x : List ℕ). length x) (take i strings) (get_or strings i s ∷ [])
-            ∙ ap (λ (x : List ℕ). lengths_of (take i strings) + lengths_of (x ∷ [])) (sym e) in
+    ∙ ap (λ (x : List ℕ). lengths_of (take i strings) + lengths_of (x ∷ [])) (sym e) in
     omega (arith, cut)
 
 less_without : (strings : List (List ℕ)) → lengths_of strings ≤ sum_by (λ s. length s + 1) strings
@@ -56,7 +54,7 @@ take_front n (x ∷ a) b e = ap (λ k. take k (x ∷ (a ++ b))) (sym e) ∙ ap (
 pub push_full : (old string items : List ℕ) (i : ℕ) → items ≡ old ++ take i string → length items ≡ 7 → items ≡ take 7 (old ++ string)
 push_full old string items i e h =
     sym (ap (take 7) (ap (λ (l : List ℕ). old ++ l) (sym (take-append-drop i string)) ∙ sym (append_assoc old (take i string) (drop i string)) ∙ ap (λ (l : List ℕ). l ++ drop i string) (sym e))
-        ∙ take_front 7 items (drop i string) h)
+    ∙ take_front 7 items (drop i string) h)
 
 pub push_whole : (old string items : List ℕ) (i : ℕ) → items ≡ old ++ take i string → length string ≤ i → length items ≤ 7 → items ≡ take 7 (old ++ string)
 push_whole old string items i e le h =
@@ -72,7 +70,7 @@ pub first_more : (items : List (List ℕ)) (i : ℕ) (s octets more : List ℕ) 
 first_more items i s octets more lt e o m =
     m ∙ ap (λ (l : List ℕ). take 7 (l ++ s)) o ∙ take_twice 7 (concat (take i items)) s
     ∙ sym (ap (λ (l : List (List ℕ)). take 7 (concat l)) (take_more items i s lt)
-        ∙ ap (take 7) (concat-append (take i items) (get_or items i s ∷ []) ∙ ap (λ (x : List ℕ). concat (take i items) ++ concat (x ∷ [])) (sym e) ∙ ap (λ (l : List ℕ). concat (take i items) ++ l) (alone s)))
+    ∙ ap (take 7) (concat-append (take i items) (get_or items i s ∷ []) ∙ ap (λ (x : List ℕ). concat (take i items) ++ concat (x ∷ [])) (sym e) ∙ ap (λ (l : List ℕ). concat (take i items) ++ l) (alone s)))
   where
     alone : (x : List ℕ) → concat (x ∷ []) ≡ x
     alone x = append-nil x

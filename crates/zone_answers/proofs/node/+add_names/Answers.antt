@@ -2,7 +2,7 @@ use Rattle.std.proofs.Common.{◌∙◌, ap, sym}
 use Rattle.std.proofs.lemmas.Result.{on_ok_weaker}
 use Rattle.dns_name.specs.Name.{is_under}
 use Rattle.zone_answers.specs.Index.{filled}
-use Rattle.zone_answers.proofs.Nodes.{at, filled_above, filled_root}
+use Rattle.zone_answers.proofs.Nodes.{at, filled_above}
 use Rattle.zone_answers.proofs.node.+add_names.Goals as goal
 
 pub returns-in-Some : goal.returns-in-Some

@@ -1,4 +1,4 @@
-use Rattle.std.proofs.Common.{ℕ, List, ◌≡◌, Bool, false, sym, ◌∙◌, ap, is_some, cond, Option, Some}
+use Rattle.std.proofs.Common.{ℕ, List, false, sym, ◌∙◌, ap, cond, Some}
 use Rattle.zone_answers.specs.declared.node.Node.{Node}
 use Rattle.zone_answers.specs.Same.{same_name}
 use Rattle.zone_answers.proofs.Nodes.{at, filled_there, filled_new}

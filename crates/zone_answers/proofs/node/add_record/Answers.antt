@@ -1,4 +1,4 @@
-use Rattle.std.proofs.Common.{◌≡◌, ℕ, List, sym, ap, ap₂, ◌∙◌, ◌++◌, ◌∷◌, [], Bool, true, false, ◌||◌, Option, Some, None, length}
+use Rattle.std.proofs.Common.{◌≡◌, ℕ, List, sym, ap, ap₂, ◌∙◌, ◌++◌, ◌∷◌, [], Bool, true, ◌||◌, Some}
 use Rattle.dns_name.specs.Name.{is_under}
 use Rattle.zone_answers.specs.declared.node.Node.{Node}
 use Rattle.zone_answers.specs.Index.{filled}
@@ -13,8 +13,8 @@ returns-then-delegates c = λ records index place.
     (λ name. c.in_ok-add_names.ensures name ∙ ap (λ owner. filled (is_under owner name) (at c.args.nodes.now.entries name)) c.in_ok-clone.ensures.cases)
     here
     (ap₂ (λ (l : List ℕ) (b : Bool). let n : Node = record { places = l; delegates = b } in n)
-        (c.in_ok-push.ensures.ok ∙ ap (λ n. c.in-Some.node.now.places ++ n ∷ []) place)
-        (sym (or_true c.in-Some.node.now.delegates _ (sym c.if-delegates.ensures))))
+    (c.in_ok-push.ensures.ok ∙ ap (λ n. c.in-Some.node.now.places ++ n ∷ []) place)
+    (sym (or_true c.in-Some.node.now.delegates _ (sym c.if-delegates.ensures))))
     ((c.get_mut.follows.holds _).3 (some_there _ _ here)).0
 
 pub returns-else-delegates : goal.returns-else-delegates
@@ -24,8 +24,8 @@ returns-else-delegates c = λ records index place.
     (λ name. c.in_ok-add_names.ensures name ∙ ap (λ owner. filled (is_under owner name) (at c.args.nodes.now.entries name)) c.in_ok-clone.ensures.cases)
     here
     (ap₂ (λ (l : List ℕ) (b : Bool). let n : Node = record { places = l; delegates = b } in n)
-        (c.in_ok-push.ensures.ok ∙ ap (λ n. c.in-Some.node.now.places ++ n ∷ []) place)
-        (sym (ap (λ b. c.in-Some.node.now.delegates || b) (sym c.if-delegates.ensures) ∙ or_false c.in-Some.node.now.delegates)))
+    (c.in_ok-push.ensures.ok ∙ ap (λ n. c.in-Some.node.now.places ++ n ∷ []) place)
+    (sym (ap (λ b. c.in-Some.node.now.delegates || b) (sym c.if-delegates.ensures) ∙ or_false c.in-Some.node.now.delegates)))
     ((c.get_mut.follows.holds _).3 (some_there _ _ here)).0
 
 pub returns-in_default : goal.returns-in_default

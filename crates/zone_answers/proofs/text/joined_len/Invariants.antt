@@ -1,5 +1,4 @@
-use Rattle.std.proofs.Common.{◌≡◌, ◌≤◌, length, sum_by, take, ◌+◌}
-use Rattle.std.specs.List.{concat}
+use Rattle.std.proofs.Common.{◌≡◌, length, sum_by, take}
 use Rattle.zone_answers.proofs.text.joined_len.Given as goal
 
 abbrev pub invariant-loop-string : goal.invariant-loop-string

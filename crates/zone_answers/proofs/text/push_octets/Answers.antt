@@ -1,4 +1,4 @@
-use Rattle.std.proofs.Common.{◌≡◌, arith, sym, length}
+use Rattle.std.proofs.Common.{arith, sym}
 use borrow.Author.Tests.{eqb-true}
 use Rattle.zone_answers.proofs.Texts.{push_full, push_whole}
 use Rattle.zone_answers.proofs.text.push_octets.Goals as goal

@@ -1,5 +1,4 @@
-use Rattle.std.proofs.Common.{◌≡◌, false, sym, ap, ◌∙◌, arith}
-use Rattle.zone_answers.specs.Answers.{is_cut_off}
+use Rattle.std.proofs.Common.{sym, ap, ◌∙◌, arith}
 use Rattle.zone_answers.specs.Zone.{Zone}
 use Rattle.zone_answers.specs.Same.{same_name}
 use Rattle.zone_answers.proofs.Nodes.{same_true}
@@ -13,8 +12,10 @@ pub returns-then-delegates : goal.returns-then-delegates
 returns-then-delegates t c = sym (cut_here c.args.self.now c.args.name.now c.requires (sym (ap (λ (z : Zone). same_name c.args.name.now z.origin) c.self.view_is) ∙ sym c.if-eq.ensures) (sym c.if-delegates.ensures))
 
 pub is_cut_off-requires : goal.is_cut_off-requires
-is_cut_off-requires t c = (omega (arith, parent_shorter c.args.name.now c.in-Some.above (sym c.in-Some.ensures), c.decreases),
-    under_above c.args.name.now c.in-Some.above c.args.self.now.origin (sym c.in-Some.ensures) c.requires (sym (ap (λ (z : Zone). same_name c.args.name.now z.origin) c.self.view_is) ∙ sym c.if-eq.ensures))
+is_cut_off-requires t c = (
+  omega (arith, parent_shorter c.args.name.now c.in-Some.above (sym c.in-Some.ensures), c.decreases),
+  under_above c.args.name.now c.in-Some.above c.args.self.now.origin (sym c.in-Some.ensures) c.requires (sym (ap (λ (z : Zone). same_name c.args.name.now z.origin) c.self.view_is) ∙ sym c.if-eq.ensures),
+)
 
 pub returns-in-Some : goal.returns-in-Some
 returns-in-Some t c = c.is_cut_off.ensures ∙ cut_above c.args.self.now c.args.name.now c.in-Some.above (sym c.in-Some.ensures) (sym c.if-delegates.ensures)

@@ -11,5 +11,10 @@ returns-in-None-clause-places c = sym (none_here c.self.inside.records.keys c.se
     ∙ ap (λ (z : Zone). places_from 0 z.records c.args.name.now) c.self.view_is
 
 pub returns-in-Some-clause-few : goal.returns-in-Some-clause-few
-returns-in-Some-clause-few c = omega (arith, ap length c.as_slice.ensures, ap (λ (n : Node). length n.places) (node_is c.self.inside.records.keys c.self.inside.nodes.entries c.args.name.now c.in-Some.node.now c.self.invariant.index c.in-Some.ensures.value),
-    places_few 0 c.self.inside.records.keys c.args.name.now, c.self.invariant.few)
+returns-in-Some-clause-few c = omega (
+  arith,
+  ap length c.as_slice.ensures,
+  ap (λ (n : Node). length n.places) (node_is c.self.inside.records.keys c.self.inside.nodes.entries c.args.name.now c.in-Some.node.now c.self.invariant.index c.in-Some.ensures.value),
+  places_few 0 c.self.inside.records.keys c.args.name.now,
+  c.self.invariant.few,
+)

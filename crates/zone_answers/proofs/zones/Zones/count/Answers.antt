@@ -1,4 +1,4 @@
-use Rattle.std.proofs.Common.{◌≡◌, ◌∙◌, ap, arith, sum_by, length}
+use Rattle.std.proofs.Common.{◌∙◌, ap, arith, sum_by, length}
 use Rattle.zone_answers.specs.Same.{records_in}
 use Rattle.zone_answers.specs.Zone.{Zone}
 use Rattle.zone_answers.proofs.Counts.{records_sum}

@@ -1,9 +1,8 @@
-use Rattle.std.proofs.Common.{◌≡◌, ℕ, ◌+◌, ◌≤◌, ◌<◌, Bool, true, false, List, [], ◌∷◌, ◌++◌, length, is_some, sym, ap, ap₂, ◌∙◌, subst, arith}
-use Rattle.std.specs.Option.{option_copied}
+use Rattle.std.proofs.Common.{◌≡◌, ℕ, ◌+◌, List, [], ◌∷◌, ◌++◌, length, is_some, sym, ap, ap₂, ◌∙◌, subst, arith}
 use Rattle.master_reader.specs.declared.record.Record.{Record}
 use Rattle.zone_answers.specs.Zone.{Zone}
 use Rattle.zone_answers.specs.Same.{distinct_records, records_in}
-use Rattle.zone_answers.specs.Lend.{AreLendable, AreZones, has_origin, with_zone}
+use Rattle.zone_answers.specs.Lend.{AreLendable, AreZones, with_zone}
 use Rattle.zone_answers.proofs.Holding.{copied_some}
 use Rattle.zone_answers.proofs.Distinct.{distinct_twice}
 use Rattle.zone_answers.proofs.Lending.{origin_found, count_with, lendable_distinct, zones_more, clash_of, no_clash_of}
@@ -20,10 +19,11 @@ returns-then-is_some-clause-refused c =
     sym (c.is_some.ensures ∙ copied_some c.zone_at.result ∙ ap is_some c.zone_at.ensures ∙ origin_found c.args.self.now c.args.origin) ∙ c.if-is_some.true
 
 pub returns-then-count-gt-MAX_RECORDS-clause-refused : goal.returns-then-count-gt-MAX_RECORDS-clause-refused
-returns-then-count-gt-MAX_RECORDS-clause-refused c =
-    (sym (c.is_some.ensures ∙ copied_some c.zone_at.result ∙ ap is_some c.zone_at.ensures ∙ origin_found c.args.self.now c.args.origin) ∙ c.if-is_some.false,
-        total c.args.self.now c.args.origin c.args.records c.in_ok-records.records.keys c.count.result c.len.result c.count.ensures.count c.len.ensures.len c.in_ok-records.ensures,
-        c.if-count-gt-MAX_RECORDS.true)
+returns-then-count-gt-MAX_RECORDS-clause-refused c = (
+  sym (c.is_some.ensures ∙ copied_some c.zone_at.result ∙ ap is_some c.zone_at.ensures ∙ origin_found c.args.self.now c.args.origin) ∙ c.if-is_some.false,
+  total c.args.self.now c.args.origin c.args.records c.in_ok-records.records.keys c.count.result c.len.result c.count.ensures.count c.len.ensures.len c.in_ok-records.ensures,
+  c.if-count-gt-MAX_RECORDS.true,
+)
 
 pub new-requires-clause-lendable : goal.new-requires-clause-lendable
 new-requires-clause-lendable c = subst (AreLendable c.args.origin) (sym c.in_ok-records.ensures) (lendable_distinct c.args.origin c.args.records c.requires.lendable)
@@ -32,10 +32,11 @@ pub new-requires-clause-distinct : goal.new-requires-clause-distinct
 new-requires-clause-distinct c = ap distinct_records c.in_ok-records.ensures ∙ distinct_twice c.args.records ∙ sym c.in_ok-records.ensures
 
 pub returns-in-Some-clause-refused : goal.returns-in-Some-clause-refused
-returns-in-Some-clause-refused c =
-    (sym (c.is_some.ensures ∙ copied_some c.zone_at.result ∙ ap is_some c.zone_at.ensures ∙ origin_found c.args.self.now c.args.origin) ∙ c.if-is_some.false,
-        omega (arith, total c.args.self.now c.args.origin c.args.records c.in_ok-records.records.keys c.count.result c.len.result c.count.ensures.count c.len.ensures.len c.in_ok-records.ensures, c.if-count-gt-MAX_RECORDS.false),
-        clash_of c.in_ok-zone.zone _ c.in_ok-name.field-0 c.in-Some.name (made c.args.origin c.in_ok-zone.zone c.in_ok-records.records.keys c.args.records c.in_ok-zone.ensures c.in_ok-records.ensures) c.in-Some.is c.in_ok-name.ensures)
+returns-in-Some-clause-refused c = (
+  sym (c.is_some.ensures ∙ copied_some c.zone_at.result ∙ ap is_some c.zone_at.ensures ∙ origin_found c.args.self.now c.args.origin) ∙ c.if-is_some.false,
+  omega (arith, total c.args.self.now c.args.origin c.args.records c.in_ok-records.records.keys c.count.result c.len.result c.count.ensures.count c.len.ensures.len c.in_ok-records.ensures, c.if-count-gt-MAX_RECORDS.false),
+  clash_of c.in_ok-zone.zone _ c.in_ok-name.field-0 c.in-Some.name (made c.args.origin c.in_ok-zone.zone c.in_ok-records.records.keys c.args.records c.in_ok-zone.ensures c.in_ok-records.ensures) c.in-Some.is c.in_ok-name.ensures,
+)
 
 pub invariant_of-self-2 : goal.invariant_of-self-2
 invariant_of-self-2 c =
