@@ -7,7 +7,7 @@ use Rattle.spfc_outer.specs.Causes.{Rose}
 use Rattle.master_reader.specs.declared.record.Record.{Record}
 use Rattle.zone_answers.specs.Zone.{Zone}
 use Rattle.zone_answers.specs.Lend.{IsRefused}
-use Rattle.zone_answers.specs.declared.zones.LendFault.{LendFault}
+use Rattle.zone_answers.specs.declared.fault.LendFault.{LendFault}
 use Rattle.spfc_words.specs.declared.zone_word.ZoneWord.{ZoneWord}
 use Rattle.spfc_top.specs.declared.stop.Stop.{Stop}
 use Rattle.spfc_top.specs.declared.stop.Stop.TheVariants as stop

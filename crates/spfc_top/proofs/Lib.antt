@@ -3,7 +3,7 @@ pub mod DeterminedLemmas
 pub mod DueLemmas
 pub mod EndedLemmas
 pub mod LendingLemmas
-pub mod Owed
+pub mod OneLending
 pub mod PublishedLemmas
 pub mod ReadingLemmas
 pub mod SameVerdicts

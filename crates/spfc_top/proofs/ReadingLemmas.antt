@@ -11,7 +11,7 @@ use Rattle.spfc_top.specs.declared.stop.Stop.TheVariants as stop
 use Rattle.spfc_top.specs.Zones.{FileDue, long_file, read, most_bytes}
 use Rattle.spfc_top.specs.Lines.{long_file_line}
 use Rattle.spfc_top.specs.Answers.{ComesTo, HasTaken, EndsTaken, HasRead, StopsBy, RefusedBy, IsNoFault}
-use Rattle.spfc_top.proofs.Owed.{reads_lendable}
+use Rattle.zone_answers.proofs.Reading.{read_lendable}
 
 pub bound : (bytes piece : List ℕ) (count : ℕ) → count ≡ length bytes → count + length piece ≤ most_bytes + 1 → length (bytes ++ piece) < 2 ^ 64
 bound bytes piece count is le = omega (arith, is, le, length-append bytes piece)
@@ -42,7 +42,7 @@ judged told held word contents (Ok records) is reads short t = read contents rec
 judged told held word contents (Err e) is reads short t = tt
 
 pub judged_lendable : (origin : List (List ℕ)) (contents : List ℕ) (r : Result (List Record) Stop) → IfOk r (Reads origin contents) → IfOk r (AreLendable origin)
-judged_lendable origin contents (Ok records) reads = reads_lendable origin contents records reads
+judged_lendable origin contents (Ok records) reads = read_lendable origin contents records reads
 judged_lendable origin contents (Err e) reads = tt
 
 pub judged_stops : (told : Bool) (held : Option (List ℕ)) (word : ZoneWord) (contents : List ℕ) (Faulted : List ℕ → Type 0) (r : Result (List Record) Stop) → (IsTrue told → held ≡ Some contents) →

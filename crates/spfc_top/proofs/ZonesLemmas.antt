@@ -7,7 +7,8 @@ use Rattle.zone_answers.specs.Lend.{with_zone}
 use Rattle.spfc_words.specs.declared.zone_word.ZoneWord.{ZoneWord}
 use Rattle.spfc_top.specs.Zones.{Contents, FileDue, no_file, long_file, bad_zone, read, lend_line, LendDue, refused, lent, Then, WordDue, ZoneWordsDue, words_before}
 use Rattle.spfc_top.specs.Lines.{bad_zone_line}
-use Rattle.spfc_top.proofs.Owed.{reads_once, faults_once, reads_no_fault, lend_once, lent_not_refused}
+use Rattle.master_reader.proofs.Once.{reads_once, faults_once, reads_not_faults}
+use Rattle.spfc_top.proofs.OneLending.{lend_once, lent_not_refused}
 
 pub ok_twice : {A E : Type 0} {found : Result A E} {a b : A} → found ≡ Ok a → found ≡ Ok b → a ≡ b
 ok_twice p q = cc
@@ -60,11 +61,11 @@ one_of_file held word x y (bad_zone c l k has short bad is) (long_file c' has' l
 one_of_file held word x y (bad_zone c l k has short bad is) (bad_zone c' l' k' has' short' bad' is') =
     is ∙ (ap Err (same_bad word.file l l' k k' (faults_once word.origin c l l' k k' bad (rw (held_twice has' has) at bad'))) ∙ sym is')
 one_of_file held word x y (bad_zone c l k has short bad is) (read c' r has' short' reads is') =
-    absurd (reads_no_fault word.origin c r l k (rw (held_twice has' has) at reads) bad)
+    absurd (reads_not_faults word.origin c r l k (rw (held_twice has' has) at reads) bad)
 one_of_file held word x y (read c r has short reads is) (no_file none is') = absurd (held_not none has)
 one_of_file held word x y (read c r has short reads is) (long_file c' has' long is') = absurd (omega (arith, short, rw (held_twice has' has) at long))
 one_of_file held word x y (read c r has short reads is) (bad_zone c' l k has' short' bad is') =
-    absurd (reads_no_fault word.origin c r l k reads (rw (held_twice has' has) at bad))
+    absurd (reads_not_faults word.origin c r l k reads (rw (held_twice has' has) at bad))
 one_of_file held word x y (read c r has short reads is) (read c' r' has' short' reads' is') =
     is ∙ (ap Ok (reads_once word.origin c r r' reads (rw (held_twice has' has) at reads')) ∙ sym is')
 

@@ -5,7 +5,7 @@ use Rattle.spfc_outer.specs.Causes.{Rose}
 use Rattle.master_reader.specs.declared.fault.Kind.{Kind}
 use Rattle.master_reader.specs.Readers.{StandsFor, DecidesFault}
 use Rattle.zone_answers.specs.Zone.{Zone}
-use Rattle.zone_answers.specs.declared.zones.LendFault.{LendFault}
+use Rattle.zone_answers.specs.declared.fault.LendFault.{LendFault}
 use Rattle.spf_grammar.specs.declared.flat.FlatTerm.{FlatTerm}
 use Rattle.spfc_words.specs.declared.zone_word.ZoneWord.{ZoneWord}
 use Rattle.spfc_top.specs.declared.answer.Answer.{Answer}

@@ -6,8 +6,8 @@ use Rattle.master_reader.specs.declared.record.Record.{Record}
 use Rattle.master_reader.specs.Reading.{Reads, Faults}
 use Rattle.zone_answers.specs.Zone.{Zone}
 use Rattle.zone_answers.specs.Lend.{IsRefused, IsLent, with_zone}
-use Rattle.zone_answers.specs.declared.zones.LendFault.{LendFault}
-use Rattle.zone_answers.specs.declared.zones.LendFault.TheVariants as fault
+use Rattle.zone_answers.specs.declared.fault.LendFault.{LendFault}
+use Rattle.zone_answers.specs.declared.fault.LendFault.TheVariants as fault
 use Rattle.spfc_words.specs.declared.zone_word.ZoneWord.{ZoneWord}
 use Rattle.spfc_top.specs.Lines.{no_file_line, long_file_line, bad_zone_line, too_many_line, alias_and_other_line}
 
