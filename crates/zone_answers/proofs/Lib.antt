@@ -8,3 +8,4 @@ pub mod Counts
 pub mod Clashes
 pub mod Lending
 pub mod Texts
+pub mod Reading
