@@ -1,8 +1,8 @@
 -- Taking as many terms as fit needs the fewest records.
-use Rattle.std.proofs.Common.{◌≡◌, ℕ, ◌+◌, ◌-◌, ◌<◌, ◌≤◌, Bool, true, false, inl, inr, List, [], ◌∷◌, ◌++◌, length, take, drop, refl, sym, ap, ◌∙◌, subst, arith, length-append, length-drop}
+use Rattle.std.proofs.Common.{◌≡◌, ℕ, ◌+◌, ◌-◌, ◌<◌, ◌≤◌, true, false, inl, inr, List, [], ◌∷◌, ◌++◌, length, take, drop, refl, sym, ap, ◌∙◌, subst, arith, length-append, length-drop}
 use Rattle.std.proofs.lemmas.Bool.{cases_lt}
 use Rattle.spf_grammar.specs.declared.flat.FlatTerm.{FlatTerm}
-use Rattle.record_pack.specs.Records.{piece, record_size, Fits, RiseTo, RecordsFit, IsCut, IsFittingCut, TakeMost, HasFewest}
+use Rattle.record_pack.specs.Records.{piece, record_size, Fits, RiseTo, RecordsFit, IsFittingCut, TakeMost, HasFewest}
 use Rattle.record_pack.proofs.Pieces.{octets, octets-take, piece-later, fits-less, fits-within, within-fits}
 
 module _ (domain label : List ℕ) (size others : ℕ) (list : List FlatTerm) where

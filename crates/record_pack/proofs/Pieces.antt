@@ -1,12 +1,12 @@
 -- Octets of pieces, and records that fit.
-use Rattle.std.proofs.Common.{◌≡◌, ◌↔◌, IsTrue, nat_eq, inl, inr, ℕ, ◌+◌, ◌-◌, ◌<◌, ◌≤◌, Bool, List, [], ◌∷◌, ◌++◌, length, take, drop, get_or, refl, sym, ap, ◌∙◌, subst, arith, length-append, length-drop}
+use Rattle.std.proofs.Common.{◌≡◌, ◌↔◌, IsTrue, nat_eq, inl, inr, ℕ, ◌+◌, ◌-◌, ◌<◌, ◌≤◌, Bool, List, [], ◌∷◌, ◌++◌, length, take, drop, get_or, sym, ap, ◌∙◌, subst, arith, length-append}
 use Rattle.std.proofs.lemmas.List.{take-append-drop, take-take, drop-take, drop-drop, take_more, take_all}
 use Rattle.std.proofs.lemmas.Bool.{cases_lt}
 use Rattle.std.specs.Cmp.{unsigned_Decides}
 use Rattle.std.proofs.lemmas.Grind.{flat_map-append}
 use Rattle.spf_grammar.specs.declared.flat.FlatTerm.{FlatTerm}
 use Rattle.spf_grammar.specs.Written.{written_flat}
-use Rattle.record_pack.specs.Records.{spaced, terms_text, redirect_text, record_name, record_size, piece, Fits}
+use Rattle.record_pack.specs.Records.{spaced, record_size, piece, Fits}
 
 -- the octets of terms, each with a space before it
 abbrev pub octets : List FlatTerm → ℕ

@@ -1,8 +1,8 @@
-use Rattle.std.proofs.Common.{◌≡◌, ◌+◌, ◌-◌, ◌<◌, ◌≤◌, List, [], ◌∷◌, ◌++◌, length, take, drop, true≢false, sym, ap, ◌∙◌, subst, arith, length-append, length-drop}
+use Rattle.std.proofs.Common.{◌≡◌, ◌+◌, ◌-◌, ◌≤◌, List, [], ◌∷◌, length, take, drop, true≢false, sym, ◌∙◌, subst, arith, length-append, length-drop}
 use Rattle.std.proofs.lemmas.List.{take_rest}
 use Rattle.spf_grammar.specs.declared.flat.FlatTerm.{FlatTerm}
-use Rattle.record_pack.specs.Records.{IsFittingCut, TakeMost, HasFewest}
-use Rattle.record_pack.proofs.Fewest.{Ends, Leads, NoMore, Led, AllGoOn, led_push, led_most, all_go_on, none_fits, fitting_cut, taken_leads, taken_most}
+use Rattle.record_pack.specs.Records.{IsFittingCut, TakeMost}
+use Rattle.record_pack.proofs.Fewest.{Leads, NoMore, Led, led_push, led_most, all_go_on, none_fits, fitting_cut, taken_leads, taken_most}
 use Rattle.record_pack.proofs.greedy.pack.Goals as goal
 
 pub returns-then-fits-clause-fits : goal.returns-then-fits-clause-fits
