@@ -1,7 +1,6 @@
 //! Whether a record fits below the size.
-ghost use Rattle.std.specs.Prelude.{◌≡◌, ℕ, ◌+◌, ◌-◌, ◌<◌, ◌≤◌, ◌↔◌, ◌^◌, ◌∷◌, min, length, flat_map, IsTrue, MatchOption};
-ghost use Rattle.spf_grammar.specs.Written.{written_flat};
-ghost use Rattle.record_pack.specs.Records.{Fits, piece, record_name, redirect_text, terms_text};
+ghost use Rattle.std.specs.Prelude.{◌≡◌, ◌+◌, ◌-◌, ◌<◌, ◌≤◌, ◌↔◌, ◌^◌, [], min, length, take, IsTrue, MatchOption};
+ghost use Rattle.record_pack.specs.Records.{Fits, piece, record_name, record_size, spaced};
 
 use itoa::Buffer;
 use spf_grammar::{FlatTerm, write_flat};
@@ -27,15 +26,47 @@ fn name_len(domain: &[u8], label: &[u8], index: u32) -> u64
         .saturating_add(number + 1)
 }
 
-/// What is left of the room behind the version section and the terms; `None` where they take more.
-fn room_behind(terms: &[FlatTerm], room: u64) -> Option<u64>
-    ensures { MatchOption result (room < length (terms_text terms.now)) (λ left. left + length (terms_text terms.now) ≡ room) }
+/// What the terms of a record may take at most, so that it fits; `None` where it does not fit without a term.
+pub(crate) fn room_for(
+    index: u32,
+    last: bool,
+    domain: &[u8],
+    label: &[u8],
+    size: u32,
+    others: u64,
+) -> Option<u64>
+    requires few { index ≤ 10 }
+    ensures { MatchOption result (size ≤ record_size domain.now label.now others [] index last)
+        (λ room. record_size domain.now label.now others [] index last + 1 + room ≡ size) }
 {
-    let mut left = room.checked_sub(VERSION_LEN)?;
-    for term in terms {
-        left = left.checked_sub(1 + write_flat(term).len() as u64)?;
+    let name = name_len(domain, label, index);
+    let others = if index == 0 { others } else { 0 };
+    let redirect = if last {
+        0
+    } else {
+        name_len(domain, label, index + 1).saturating_add(REDIRECT_LEN)
+    };
+    let fixed = name
+        .saturating_add(others)
+        .saturating_add(redirect)
+        .saturating_add(VERSION_LEN);
+    u64::from(size).checked_sub(fixed)?.checked_sub(1)
+}
+
+/// How many terms from the front take at most the room, each with a space before it.
+pub(crate) fn taken(terms: &[FlatTerm], room: u64) -> usize
+    ensures within { result ≤ length terms.now }
+    ensures enough { length (spaced (take result terms.now)) ≤ room }
+    ensures most { result < length terms.now → room < length (spaced (take (result + 1) terms.now)) }
+{
+    let mut left = room;
+    for (place, term) in terms.iter().enumerate() {
+        match left.checked_sub(1 + write_flat(term).len() as u64) {
+            None => return place,
+            Some(rest) => left = rest,
+        }
     }
-    Some(left)
+    terms.len()
 }
 
 /// Whether the record of the terms from `from` up to `to` fits: the octets of its name and of its text, and for
@@ -56,19 +87,9 @@ pub fn fits(
     requires few { index ≤ 10 }
     ensures { IsTrue result ↔ Fits domain.now label.now size others (piece list.now from to) index last }
 {
-    let name = name_len(domain, label, index);
-    let others = if index == 0 { others } else { 0 };
-    let redirect = if last {
-        0
-    } else {
-        name_len(domain, label, index + 1).saturating_add(REDIRECT_LEN)
-    };
-    let fixed = name.saturating_add(others).saturating_add(redirect);
-    match u64::from(size).checked_sub(fixed) {
+    let terms = &list[from..to];
+    match room_for(index, last, domain, label, size, others) {
         None => false,
-        Some(room) => match room_behind(&list[from..to], room) {
-            None => false,
-            Some(left) => left > 0,
-        },
+        Some(room) => taken(terms, room) == terms.len(),
     }
 }

@@ -1,10 +1,14 @@
-//! Records of a redirect chain: what they spell, and which fit below the size.
+//! Records of a redirect chain: what they spell, which fit below the size, and the fewest that a list is cut into.
 #![tactic(auto)]
 
 mod cut;
+mod fault;
 mod fit;
+mod greedy;
 #[cfg(test)]
 mod tests;
 
 pub use cut::{Cut, Ends};
+pub use fault::PackFault;
 pub use fit::fits;
+pub use greedy::pack;
