@@ -46,13 +46,12 @@ lend_once zones origin records (AliasAndOther name) (AliasAndOther other) a b x 
     let same : printed_name name ≡ printed_name other = both_at_most (printed_name name) (printed_name other) (x.2.least other y.2.clashes) (y.2.least name x.2.clashes) in
     some_twice p q (rw same refl)
 
-no_clash : {b : Bool} → IsFalse b → IsTrue b → ⊥
-no_clash {true} f t = f
-no_clash {false} f t = t
+no_clash : (b : Bool) → IsFalse b → IsTrue b → ⊥
+no_clash b f t = cc
 
 pub lent_not_refused : (zones : List Zone) (origin : List (List ℕ)) (records : List Record) (f : LendFault) (a : List ℕ) → IsLent zones origin records → IsRefused zones origin records f
     → lend_line origin f ≡ Some a → ⊥
 lent_not_refused zones origin records SameOrigin a x y p = none_not p
 lent_not_refused zones origin records Memory a x y p = none_not p
 lent_not_refused zones origin records (TooMany count) a x y p = omega (arith, y.1, y.2, x.room)
-lent_not_refused zones origin records (AliasAndOther name) a x y p = no_clash (x.no_clash name) y.2.clashes
+lent_not_refused zones origin records (AliasAndOther name) a x y p = no_clash _ (x.no_clash name) y.2.clashes

@@ -17,16 +17,25 @@ fn calls(alloc: Global, numbers: &[u64]) -> Result<Calls, AllocError> {
     Ok(calls)
 }
 
-// One file, and calls that fail. A read takes at most 16 bytes.
+// A file's name and its contents.
+type File<'a> = (&'a [u8], &'a [u8]);
+
+// Files, and calls that fail. A read takes at most 16 bytes.
+fn mem_files(alloc: Global, files: &[File<'_>], fails: &[u64]) -> Result<MemFiles, AllocError> {
+    let mut list = FileList::new(alloc);
+    for (name, contents) in files {
+        list.push((bytes(alloc, name)?, bytes(alloc, contents)?))?;
+    }
+    Ok(MemFiles::new(list, 16, calls(alloc, fails)?))
+}
+
 fn one_file(
     alloc: Global,
     name: &[u8],
     contents: &[u8],
     fails: &[u64],
 ) -> Result<MemFiles, AllocError> {
-    let mut files = FileList::new(alloc);
-    files.push((bytes(alloc, name)?, bytes(alloc, contents)?))?;
-    Ok(MemFiles::new(files, 16, calls(alloc, fails)?))
+    mem_files(alloc, &[(name, contents)], fails)
 }
 
 // A sink with calls that fail. A write takes at most 10 bytes.
@@ -54,7 +63,7 @@ struct Output<'a> {
     len: usize,
 }
 
-const OUTPUTS: [Output<'static>; 5] = [
+const OUTPUTS: [Output<'static>; 9] = [
     Output {
         file: ROW_1,
         begins: b"$ORIGIN example.com.\n$TTL 3600\n@ IN TXT \"v=spf1 ip4:192.0.2.0/24 -all\"\n; row 0.0.0.0/0 1 2 2 2\n",
@@ -85,6 +94,30 @@ const OUTPUTS: [Output<'static>; 5] = [
         ends: b"; fewest 3\n",
         len: 0,
     },
+    Output {
+        file: b"@ 3600 IN SOA ns.example.com. admin.example.com. ( 1 7200 ; serial\n  900 1209600\n  300 ) ; end\n@ IN TXT ( \"v=spf1 ip4:192.0.\"  ; first part\n  \"2.0/24\"\n  \" -all\" )\n",
+        begins: b"$ORIGIN example.com.\n$TTL 3600\n@ IN TXT \"v=spf1 ip4:192.0.2.0/24 -all\"\n; row ",
+        ends: b"; fewest 2\n",
+        len: 718,
+    },
+    Output {
+        file: b"@ TXT \"v=spf1 ?all\"\n@ TXT \"verify=0123456789\"\n@ TXT \"v=spf1 ?all\"\n",
+        begins: b"$ORIGIN example.com.\n$TTL 3600\n@ IN TXT \"v=spf1\"\n; fewest 0\n",
+        ends: b"; fewest 0\n",
+        len: 60,
+    },
+    Output {
+        file: b"example.com. 1h A 192.0.2.1\n TXT \"v=spf1 ip6:2001:0DB8:0:0:1:0:0:1/127 -all\"\n",
+        begins: b"$ORIGIN example.com.\n$TTL 3600\n@ IN TXT \"v=spf1 ip6:2001:db8:0:0:1::/127 -all\"\n; row ",
+        ends: b"; fewest 2\n",
+        len: 0,
+    },
+    Output {
+        file: b"@ CNAME a.b\n*.b CNAME www\nwww TXT \"v=spf1 +all\"\n",
+        begins: b"$ORIGIN example.com.\n$TTL 3600\n@ IN TXT \"v=spf1 all\"\n; fewest 1\n",
+        ends: b"; fewest 1\n",
+        len: 64,
+    },
 ];
 
 fn try_output(rt: &impl Abort, alloc: Global, case: &Output<'_>) -> Result<(), Fail> {
@@ -113,76 +146,99 @@ fn a_shortest_list_is_written(rt: HostRuntime) -> Result<(), Fail> {
     Ok(())
 }
 
-// Words and a file, and the status and the line that they come to.
+// Words and files, and the status and the line that they come to.
 struct Refusal<'a> {
     words: &'a [&'a str],
-    name: &'a [u8],
-    file: &'a [u8],
+    files: &'a [File<'a>],
     status: u8,
     line: &'a [u8],
 }
 
-const REFUSALS: [Refusal<'static>; 8] = [
+const TWO_ZONES: [&str; 4] = ["compile", "Example.com", "example.com=z", "NET.=y"];
+
+const REFUSALS: [Refusal<'static>; 12] = [
     Refusal {
-        words: &["compile", "example.com", "example.com=z"],
-        name: b"z",
-        file: b"@ IN TXT \"v=spf1 a -all\"\n",
+        words: &WORDS,
+        files: &[(b"z", b"@ IN TXT \"v=spf1 a -all\"\n")],
         status: 3,
         line: b"not yet example.com\n",
     },
     Refusal {
-        words: &["compile", "example.com", "example.com=z"],
-        name: b"z",
-        file: b"",
+        words: &WORDS,
+        files: &[(b"z", b"")],
         status: 3,
         line: b"not yet example.com\n",
     },
     Refusal {
-        words: &["compile", "Example.com", "example.com=z"],
-        name: b"z",
-        file: b"@ IN TXT \"v=spf1 ip4:200.100.100.0/24 ip4:200.100.102.0/24 ip4:200.100.104.0/24 ip4:200.100.106.1 ip4:200.100.108.1 ip4:200.100.110.1 ip4:200.100.112.1 ip4:200.100.114.1 ip4:200.100.116.1 ip4:200.100.118.1 ip4:200.100.120.1 ip4:200.100.122.1 ip4:200.100.124.1 ip4:200.100.126.1 ip4:200.100.128.1\"\n",
+        words: &WORDS,
+        files: &[(b"z", b"@ TXT \"v=spf1 -all\"\n@ TXT \"v=spf1 ~all\"\n")],
         status: 3,
         line: b"not yet example.com\n",
     },
     Refusal {
-        words: &["compile", "example.com", "example.com=z"],
-        name: b"y",
-        file: ROW_1,
+        words: &WORDS,
+        files: &[(b"y", ROW_1)],
         status: 3,
         line: b"no file z\n",
     },
     Refusal {
+        words: &WORDS,
+        files: &[(
+            b"z",
+            b"$ORIGIN example.com.\n$TTL 1h\n@ IN A 192.0.2.1\n@ IN TXT \"v=spf1 -all\nwww IN A 192.0.2.2\n",
+        )],
+        status: 3,
+        line: b"bad zone z 4 OpenQuote\n",
+    },
+    Refusal {
+        words: &TWO_ZONES,
+        files: &[(b"z", ROW_1), (b"y", b"a A 192.0.2.1\nb A ( 1.2.3\n")],
+        status: 3,
+        line: b"bad zone y 2 OpenParen\n",
+    },
+    Refusal {
+        words: &TWO_ZONES,
+        files: &[
+            (b"z", b"w CNAME x\nw A 192.0.2.1\n"),
+            (b"y", b"a A 1.2.3\n"),
+        ],
+        status: 3,
+        line: b"alias and other example.com w.example.com\n",
+    },
+    Refusal {
+        words: &TWO_ZONES,
+        files: &[(b"z", ROW_1)],
+        status: 3,
+        line: b"no file y\n",
+    },
+    Refusal {
         words: &["compile", "example", "example=z"],
-        name: b"z",
-        file: ROW_1,
+        files: &[(b"z", ROW_1)],
         status: 4,
         line: b"usage\n",
     },
     Refusal {
         words: &["compile", "example", "example.com=z"],
-        name: b"z",
-        file: ROW_1,
+        files: &[(b"z", ROW_1)],
         status: 4,
         line: b"usage\n",
     },
     Refusal {
         words: &["compile", "example.com", "--size", "63", "example.com=z"],
-        name: b"z",
-        file: ROW_1,
+        files: &[(b"z", ROW_1)],
         status: 4,
         line: b"usage\n",
     },
     Refusal {
         words: &["compile", "example.com", "example.com=z", "EXAMPLE.com=y"],
-        name: b"z",
-        file: ROW_1,
+        files: &[(b"z", ROW_1)],
         status: 4,
         line: b"usage\n",
     },
 ];
 
 fn try_refusal(rt: &impl Abort, alloc: Global, case: &Refusal<'_>) -> Result<(), Fail> {
-    let mut files = one_file(alloc, case.name, case.file, &[])?;
+    let mut files = mem_files(alloc, case.files, &[])?;
     let mut out = sink(alloc, &[])?;
     let mut err = sink(alloc, &[])?;
     let words = words(alloc, case.words)?;
@@ -213,6 +269,15 @@ fn faults_are_told(rt: HostRuntime) -> Result<(), Fail> {
     let mut err = sink(alloc, &[])?;
     assert_eq!(rt; run(alloc, &words, &mut files, &mut out, &mut err), 5);
     assert_eq!(rt; err.bytes(), b"read fault z\n".as_slice());
+
+    let names: [&str; 4] = ["compile", "example.com", "example.com=z", "net=y"];
+    let zones: [File<'_>; 2] = [(b"z", ROW_1), (b"y", ROW_1)];
+    let mut files = mem_files(alloc, &zones, &[10])?;
+    let mut out = sink(alloc, &[])?;
+    let mut err = sink(alloc, &[])?;
+    let two = self::words(alloc, &names)?;
+    assert_eq!(rt; run(alloc, &two, &mut files, &mut out, &mut err), 5);
+    assert_eq!(rt; err.bytes(), b"read fault y\n".as_slice());
 
     let mut files = one_file(alloc, b"z", ROW_1, &[])?;
     let mut out = sink(alloc, &[2])?;
