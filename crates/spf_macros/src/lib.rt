@@ -8,6 +8,7 @@ mod letter;
 mod parts;
 mod piece;
 mod read;
+mod targets;
 #[cfg(test)]
 mod tests;
 mod toplabel;
@@ -20,5 +21,6 @@ pub use expansion::{Expanded, Need, expand};
 pub use laws::{one_macro_text, written_macro_text};
 pub use piece::{Letter, Macro, MacroText, Piece};
 pub use read::read_macro_text;
+pub use targets::target;
 pub use words::{is_domain, is_label};
 pub use write::write_macro_text;

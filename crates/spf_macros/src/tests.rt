@@ -114,6 +114,13 @@ fn expanded(
     }
 }
 
+fn targeted(alloc: Global, text: &str, domain: &[u8]) -> Result<Option<Expanded>, AllocError> {
+    match read_domain_spec(alloc, text.as_bytes(), false)? {
+        Some(pieces) => Ok(Some(target(alloc, &pieces, Family::V6, domain)?)),
+        None => Ok(None),
+    }
+}
+
 #[test]
 fn words(rt: HostRuntime) {
     for text in DOMAINS {
@@ -168,6 +175,40 @@ fn expansions(rt: HostRuntime) -> Result<(), Fail> {
         match expanded(rt.alloc(), text, family, domain)? {
             Some(Expanded::Out(out)) => {
                 assert_eq!(rt; out.as_slice(), want.as_bytes(), "at {text}");
+            }
+            _ => assert!(rt; false, "at {text}"),
+        }
+    }
+    Ok(())
+}
+
+// A domain-spec and what it asks for at a domain of 253 characters that ends in `.a.b`.
+const TARGETS: [(&str, &str); 4] = [
+    ("A.%{d2}", "A.a.b"),
+    ("%{d2}%{d2}..c", "a.ba.b..c"),
+    ("%{d3}..d.", "a.a.b..d"),
+    ("%%%{d1}", "%b"),
+];
+
+#[test]
+fn targets(rt: HostRuntime) -> Result<(), Fail> {
+    let mut domain = Bytes::new(rt.alloc());
+    for _ in 0..126 {
+        domain.extend_from_slice(b"a.")?;
+    }
+    domain.push(b'b')?;
+    for (text, want) in TARGETS {
+        match targeted(rt.alloc(), text, domain.as_slice())? {
+            Some(Expanded::Out(out)) => {
+                assert_eq!(rt; out.as_slice(), want.as_bytes(), "at {text}");
+            }
+            _ => assert!(rt; false, "at {text}"),
+        }
+    }
+    for text in ["%{d}", "x.%{d}", "xx.y.%{d}", "%{d}.%{d}"] {
+        match targeted(rt.alloc(), text, domain.as_slice())? {
+            Some(Expanded::Out(out)) => {
+                assert_eq!(rt; out.as_slice(), domain.as_slice(), "at {text}");
             }
             _ => assert!(rt; false, "at {text}"),
         }
