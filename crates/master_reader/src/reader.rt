@@ -1,0 +1,83 @@
+//! Records out of the pieces of a file.
+ghost use Rattle.std.specs.Prelude.{◌≡◌, ℕ, ◌+◌, ◌<◌, ◌^◌, List, [], ◌++◌, length, IfOk, IfErr, OnOk};
+ghost use Rattle.master_reader.specs.declared.fault.Kind.{Kind};
+ghost use Rattle.master_reader.specs.Reading.{Reads, Faults};
+ghost use Rattle.master_reader.specs.Readers.{StandsFor, DecidesFault, FaultIs};
+
+use crate::fault::ZoneFault;
+use crate::record::Records;
+use dns_name::Name;
+use master_lex::Cutter;
+use std::alloc::Global;
+use std::marker::Model;
+
+/// Reads the records of a master file (RFC 1035, section 5) from its pieces, however it is cut. It keeps the open entry
+/// and the records so far; the origin only where a directive stated another than the zone's.
+#[derive(Drop, Debug)]
+pub struct Reader {
+    alloc: Global,
+    zone: Name,
+    cutter: Cutter,
+    origin: Option<Name>,
+    owner: Option<Name>,
+    records: Records,
+}
+
+impl Model for Reader {
+    ghost use Rattle.std.specs.Option.{unwrap_or};
+    ghost use Rattle.master_reader.specs.Readers.{Kept};
+
+    ghost Value = { Kept };
+
+    ghost view = { λ a. record { zone = a.zone; cutter = a.cutter; context = record { origin = unwrap_or a.origin a.zone; owner = a.owner }; records = a.records } };
+}
+
+impl Reader {
+    /// A reader of no bytes, for the zone at the origin. It keeps the allocator and takes no memory.
+    pub fn new(alloc: Global, origin: Name) -> Reader
+        ensures { StandsFor origin result [] }
+    {
+        Reader {
+            alloc,
+            zone: origin,
+            cutter: Cutter::new(alloc),
+            origin: None,
+            owner: None,
+            records: Records::new(alloc),
+        }
+    }
+
+    /// Takes a piece. `Bad` comes exactly where a broken or faulty entry is decided in the bytes taken, and names the
+    /// first one by its line and kind.
+    pub fn feed(self, piece: &[u8]) -> Result<Reader, ZoneFault>
+        ensures taken { (zone : List (List ℕ)) (bytes : List ℕ) → StandsFor zone self bytes → length (bytes ++ piece.now) < 2 ^ 64
+            → IfOk result (λ r. StandsFor zone r (bytes ++ piece.now)) }
+        ensures bad { (zone : List (List ℕ)) (bytes : List ℕ) → StandsFor zone self bytes → length (bytes ++ piece.now) < 2 ^ 64
+            → IfErr result (FaultIs (DecidesFault zone (bytes ++ piece.now))) }
+        ensures not_bad { (zone : List (List ℕ)) (bytes : List ℕ) → StandsFor zone self bytes → length (bytes ++ piece.now) < 2 ^ 64
+            → OnOk result ((line : ℕ) (kind : Kind) → ¬ DecidesFault zone (bytes ++ piece.now) line kind) }
+    {
+        Err(ZoneFault::Memory)
+    }
+
+    /// The records of the whole, or its first fault.
+    pub fn finish(self) -> Result<Records, ZoneFault>
+        ensures reads { (zone : List (List ℕ)) (bytes : List ℕ) → StandsFor zone self bytes → IfOk result (Reads zone bytes) }
+        ensures bad { (zone : List (List ℕ)) (bytes : List ℕ) → StandsFor zone self bytes → IfErr result (FaultIs (Faults zone bytes)) }
+        ensures not_bad { (zone : List (List ℕ)) (bytes : List ℕ) → StandsFor zone self bytes
+            → OnOk result ((line : ℕ) (kind : Kind) → ¬ Faults zone bytes line kind) }
+    {
+        Err(ZoneFault::Memory)
+    }
+}
+
+/// The records of a master file at or below the origin, in the file's order (RFC 1035, section 5). `Bad` comes exactly
+/// where the file has no reading, and names the first broken or faulty entry by the line on which it begins and its kind.
+pub fn read_zone(alloc: Global, origin: &Name, bytes: &[u8]) -> Result<Records, ZoneFault>
+    requires few { length bytes.now < 2 ^ 63 }
+    ensures reads { IfOk result (Reads origin.now bytes.now) }
+    ensures bad { IfErr result (FaultIs (Faults origin.now bytes.now)) }
+    ensures not_bad { OnOk result ((line : ℕ) (kind : Kind) → ¬ Faults origin.now bytes.now line kind) }
+{
+    Err(ZoneFault::Memory)
+}

@@ -1,0 +1,43 @@
+//! Questions and answers.
+
+use addr_bits::Items;
+use dns_name::Name;
+use master_reader::Body;
+
+/// What is asked of a name.
+#[derive(Clone, Copy, Debug, PartialEq, Eq)]
+pub enum QKind {
+    A,
+    Aaaa,
+    Mx,
+    Txt,
+}
+
+/// A name and what is asked of it.
+#[derive(Drop, Debug)]
+pub struct Question {
+    pub name: Name,
+    pub kind: QKind,
+}
+
+/// Bodies of records, in order.
+pub type Bodies = Items<Body>;
+
+/// The answer to a question.
+#[derive(Drop, Debug)]
+pub enum Answer {
+    /// No lent zone holds the name, or it lies below a delegation (RFC 1034, section 4.3.2, steps 2 and 3 b).
+    Outside,
+
+    /// The name does not exist (RFC 1034, section 4.3.2, step 3 c).
+    NoName,
+
+    /// The name exists, and has no record of this kind.
+    NoData,
+
+    /// The aliases lead on after 8 steps.
+    Loop,
+
+    /// The bodies of the records of this kind, in the order of the file.
+    Found(Bodies),
+}
