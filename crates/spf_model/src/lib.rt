@@ -1,0 +1,6 @@
+//! check_host of RFC 7208 for one address, over lent zones.
+#![tactic(auto)]
+
+mod outcome;
+
+pub use outcome::{Cause, Counts, Limits, Outcome, Place};
