@@ -1,14 +1,15 @@
 -- What a term of a record comes to.
-use Rattle.std.specs.Prelude.{◌≡◌, ℕ, ◌+◌, Bool, true, false, nat_le, List, [], ◌∷◌, ◌++◌, length, map, filter_map, Option, Some, None, Result, Ok, Err}
+use Rattle.std.specs.Prelude.{◌≡◌, ℕ, ◌+◌, Bool, true, false, nat_le, List, [], ◌∷◌, ◌||◌, length, map, filter_map, Option, Some, None, Result, Ok, Err}
 use Rattle.std.specs.List.{list_any}
 use Rattle.addr_bits.specs.Prefix.{cidr_of}
-use Rattle.addr_bits.specs.Address.{family_of}
+pub use Rattle.addr_bits.specs.Address.{family_of}
 use Rattle.addr_bits.specs.declared.address.Address.{Address}
 use Rattle.addr_bits.specs.declared.address.Address.TheVariants as address
 use Rattle.dns_name.specs.declared.fault.NameFault.{NameFault}
 use Rattle.dns_name.specs.Name.{name_of_text}
 use Rattle.master_reader.specs.declared.record.Body.{Body}
 use Rattle.master_reader.specs.declared.record.Body.TheVariants as body
+use Rattle.zone_answers.specs.declared.answer.QKind.{QKind}
 use Rattle.zone_answers.specs.declared.answer.QKind.TheVariants as kind
 use Rattle.zone_answers.specs.declared.answer.Question.{Question}
 use Rattle.zone_answers.specs.declared.answer.Answer.{Answer}
@@ -145,9 +146,12 @@ is_found answer.Loop = false
 is_found (answer.Found bodies) = true
 
 -- RFC 7208, section 5: the addresses of a name are asked for in the family of the address
+abbrev pub address_kind : Address → QKind
+address_kind (address.V4 a) = kind.A
+address_kind (address.V6 a) = kind.Aaaa
+
 abbrev pub address_question : Address → Labels → Question
-address_question (address.V4 a) name = record { name = name; kind = kind.A }
-address_question (address.V6 a) name = record { name = name; kind = kind.Aaaa }
+address_question a name = record { name = name; kind = address_kind a }
 
 -- RFC 7208, sections 5.3 and 5.6: the address agrees with the record's in the first bits
 abbrev pub body_agrees : ℕ → ℕ → Address → Body → Bool
@@ -164,12 +168,12 @@ body_agrees len4 len6 a body.Other = false
 abbrev pub some_agrees : ℕ → ℕ → Address → List Answer → Bool
 some_agrees len4 len6 a answers = list_any (λ found. list_any (body_agrees len4 len6 a) (bodies_of found)) answers
 
--- RFC 7208, sections 5.3 and 5.4: asks for the addresses of these hosts, counts a void, and goes on with whether one agrees. The
--- answers that the term had before count for its void
-abbrev pub match_hosts : Site → ℕ → Counts → ℕ → ℕ → List Answer → List Labels → (Bool → Counts → Run) → Run
+-- RFC 7208, sections 5.3 and 5.4: asks for the addresses of these hosts, counts a void, and goes on with whether one agrees. That
+-- the term had a void answer before counts for its void
+abbrev pub match_hosts : Site → ℕ → Counts → ℕ → ℕ → Bool → List Labels → (Bool → Counts → Run) → Run
 match_hosts site t counts len4 len6 before hosts go =
     ask_all site t counts (map (address_question site.address) hosts) (λ answers.
-    void_counted site t (list_any is_void (before ++ answers)) counts
+    void_counted site t (before || list_any is_void answers) counts
     (λ counted. go (some_agrees len4 len6 site.address answers) counted))
 
 -- RFC 7505, section 3: the exchange of an MX record that is not the root; that the root is skipped is the project's own choice
@@ -188,7 +192,7 @@ abbrev pub match_exchanges : Site → ℕ → Counts → ℕ → ℕ → Answer 
 match_exchanges site t counts len4 len6 found go =
     let exchanges = filter_map exchange_of (bodies_of found) in
     go_if (nat_le (length exchanges) site.limits.exchanges) (Perm cause.Exchanges (at site t)) counts
-    (λ counts. match_hosts site t counts len4 len6 (found ∷ []) exchanges go)
+    (λ counts. match_hosts site t counts len4 len6 (is_void found) exchanges go)
 
 -- RFC 7208, section 5.2: what an included record says of the term that includes it
 abbrev pub included : Site → ℕ → (Bool → Counts → Run) → Outcome → Counts → Run
@@ -216,7 +220,7 @@ judge site sub t (A spec len4 len6) counts go =
     counted site t counts (λ counts.
     with_target site t counts spec (λ text.
     with_name (Unsettled cause.Target (at site t)) counts (name_of text) (λ name.
-    match_hosts site t counts len4 len6 [] (name ∷ []) go)))
+    match_hosts site t counts len4 len6 false (name ∷ []) go)))
 judge site sub t (Mx spec len4 len6) counts go =
     counted site t counts (λ counts.
     with_target site t counts spec (λ text.

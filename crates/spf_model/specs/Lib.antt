@@ -1,3 +1,4 @@
 pub mod Run
 pub mod Judging
 pub mod Check
+pub mod Leads

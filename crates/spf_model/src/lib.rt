@@ -1,6 +1,8 @@
 //! check_host of RFC 7208 for one address, over lent zones.
 #![tactic(auto)]
 
+mod frame;
+mod hosts;
 mod outcome;
 
 pub use outcome::{Cause, Counts, Limits, Outcome, Place};

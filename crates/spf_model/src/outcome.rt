@@ -2,6 +2,7 @@
 
 use dns_name::Name;
 use spf_grammar::Verdict;
+use std::alloc::AllocError;
 
 /// The limits of an evaluation (RFC 7208, section 4.6.4).
 #[derive(Clone, Copy, Debug, PartialEq, Eq)]
@@ -76,4 +77,24 @@ pub enum Outcome {
     Temp(Cause, Place),
     /// What the zones and the address alone don't settle.
     Unsettled(Cause, Place),
+}
+
+/// Why a part of an evaluation hands nothing on.
+#[derive(Drop)]
+pub(crate) enum Halt {
+    /// The evaluation has ended.
+    Ended(Outcome),
+    /// There is no memory.
+    Memory,
+}
+
+impl From<AllocError> for Halt {
+    ghost use Rattle.std.specs.Prelude.{◌≡◌};
+    ghost use Rattle.spf_model.specs.declared.outcome.Halt.TheVariants.{Memory};
+
+    ghost from_gives = { λ _ halt. halt ≡ Memory };
+
+    fn from(_: AllocError) -> Halt {
+        Halt::Memory
+    }
 }
