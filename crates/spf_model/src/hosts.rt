@@ -67,12 +67,9 @@ fn answer_agrees(lens: Lens, address: Address, answer: &Answer) -> bool
     requires len6 { lens.len6 ≤ 128 }
     ensures { result ≡ list_any (judging.body_agrees lens.len4 lens.len6 address) (judging.bodies_of answer.now) }
 {
-    for body in bodies_of(answer) {
-        if body_agrees(lens, address, body) {
-            return true;
-        }
-    }
-    false
+    bodies_of(answer)
+        .iter()
+        .any(|body| body_agrees(lens, address, body))
 }
 
 /// The exchange of an MX record, unless that is the root (RFC 7505, section 3).
@@ -118,8 +115,8 @@ impl Frame<'_> {
         let mut agrees = false;
         for host in hosts {
             let answer = self.ask(term, host, address_kind(self.address))?;
-            void = void || is_void(&answer);
-            agrees = agrees || answer_agrees(lens, self.address, &answer);
+            void |= is_void(&answer);
+            agrees |= answer_agrees(lens, self.address, &answer);
         }
         self.count_void(term, void, counts)?;
         Ok(agrees)
