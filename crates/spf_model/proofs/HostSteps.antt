@@ -10,12 +10,7 @@ use Rattle.spf_model.specs.declared.outcome.Halt.TheVariants.{Ended, Memory}
 use Rattle.spf_model.specs.Run.{Run, Answering, EndsWith}
 use Rattle.spf_model.specs.Judging.{Site, Labels, ask, ask_all, address_question, is_void, some_agrees, body_agrees, bodies_of, match_hosts, void_counted}
 use Rattle.spf_model.specs.Leads.{EndsSo, LeadsTo, HandsOn, Halts}
-
--- a part of a part ends what it is a part of
-pub halts_through : {G H : Type 0} (zones : Answering) (whole : H → Run) (part : G → Run) (inner : H → G) (halt : Halt)
-    → ((go : H) → LeadsTo zones (whole go) (part (inner go))) → Halts zones part halt → Halts zones whole halt
-halts_through zones whole part inner (Ended o) leads halts = λ go. let e = halts (inner go) in (e.0, leads go o e.0 e.1)
-halts_through zones whole part inner Memory leads halts = tt
+use Rattle.spf_model.proofs.Parts.{halts_through}
 
 -- the questions to these hosts
 abbrev pub questions : Site → List Labels → (List Answer → Run) → ℕ → Counts → Run

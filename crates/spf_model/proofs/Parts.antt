@@ -1,7 +1,7 @@
 -- The parts that terms have in common: where they hand something on, and where they end the run.
-use Rattle.std.proofs.Common.{◌≡◌, ◌≢◌, ℕ, ◌+◌, ◌<◌, ◌≤◌, Bool, true, false, List, refl, sym, subst, arith, Option, Some, None}
+use Rattle.std.proofs.Common.{◌≡◌, ◌≢◌, ℕ, ◌+◌, ◌<◌, ◌≤◌, Bool, true, false, List, refl, sym, subst, arith, Option, Some, None, length, Result, Ok, Err}
 use Rattle.std.proofs.lemmas.Bool.{true≢false, lt-leb, le-leb}
-use Rattle.std.specs.Prelude.{nat_le}
+use Rattle.std.specs.Prelude.{nat_le, filter_map}
 use Rattle.zone_answers.specs.declared.answer.Answer.{Answer}
 use Rattle.zone_answers.specs.declared.answer.Answer.TheVariants as answer
 use Rattle.zone_answers.specs.declared.answer.Question.{Question}
@@ -14,15 +14,15 @@ use Rattle.addr_bits.specs.Address.{family_of}
 use Rattle.spf_model.specs.declared.outcome.Cause.TheVariants as cause
 use Rattle.spf_model.specs.declared.outcome.Counts.{Counts}
 use Rattle.spf_model.specs.declared.outcome.Halt.{Halt}
-use Rattle.spf_model.specs.declared.outcome.Halt.TheVariants.{Ended}
+use Rattle.spf_model.specs.declared.outcome.Halt.TheVariants.{Ended, Memory}
 use Rattle.spf_model.specs.declared.outcome.Outcome.{Outcome}
 use Rattle.spf_model.specs.declared.outcome.Outcome.TheVariants.{Perm, Temp, Unsettled}
 use Rattle.spf_model.specs.Run.{Run, Ends, Answering, EndsWith}
-use Rattle.spf_model.specs.Judging.{Site, Labels, at, go_if, counted, void_counted, with_name, with_text, with_target, cause_of, answered, ask}
-use Rattle.spf_model.specs.Leads.{EndsSo, LeadsTo, HandsOn, Halts}
+use Rattle.spf_model.specs.Judging.{Site, Labels, at, go_if, counted, void_counted, with_name, with_text, with_target, cause_of, answered, ask, bodies_of, is_void, exchange_of, match_exchanges, match_hosts, with_host, with_domain, name_of}
+use Rattle.spf_model.specs.Leads.{EndsSo, LeadsTo, HandsOn, Halts, IsJudged, IsSettled}
 
 -- a test that fails ends the run
-if_ends : (zones : Answering) (test : Bool) (o : Outcome) (c : Counts) (go : Counts → Run) → test ≡ false → EndsSo zones (go_if test o c go) o
+pub if_ends : (zones : Answering) (test : Bool) (o : Outcome) (c : Counts) (go : Counts → Run) → test ≡ false → EndsSo zones (go_if test o c go) o
 if_ends zones true o c go e = absurd (true≢false e)
 if_ends zones false o c go e = (c, (refl, refl))
 
@@ -91,3 +91,61 @@ pub told : (zones : Answering) (site : Site) (t : ℕ) (q : Question) (found : A
     → (c : Counts) → HandsOn zones (ask site t c q) found
 told zones site t q found e n m c =
     λ go outcome after h. subst (λ x. EndsWith zones (answered site t c go x) outcome after) e (goes_on zones site t c found n m go outcome after h)
+
+-- a part of a part ends what it is a part of
+pub halts_through : {G H : Type 0} (zones : Answering) (whole : H → Run) (part : G → Run) (inner : H → G) (halt : Halt)
+    → ((go : H) → LeadsTo zones (whole go) (part (inner go))) → Halts zones part halt → Halts zones whole halt
+halts_through zones whole part inner (Ended o) leads halts = λ go. let e = halts (inner go) in (e.0, leads go o e.0 e.1)
+halts_through zones whole part inner Memory leads halts = tt
+
+-- what a part is judged is what the whole is that it leads on
+pub judged_through : {A : Type 0} (zones : Answering) (whole part : (A → Counts → Run) → Run) (counts : Counts) (result : Result A Halt)
+    → ((go : A → Counts → Run) → LeadsTo zones (whole go) (part go)) → IsJudged zones part counts result → IsJudged zones whole counts result
+judged_through zones whole part counts (Ok x) leads judged = λ go outcome after h. leads go outcome after (judged go outcome after h)
+judged_through {A} zones whole part counts (Err halt) leads judged = halts_through zones whole part (λ (go : A → Counts → Run). go) halt leads judged
+
+-- too many exchanges
+pub too_many : (zones : Answering) (site : Site) (t len4 len6 : ℕ) (found : Answer) (c : Counts) (halt : Halt) → halt ≡ Ended (Perm cause.Exchanges (at site t))
+    → site.limits.exchanges < length (filter_map exchange_of (bodies_of found)) → Halts zones (match_exchanges site t c len4 len6 found) halt
+too_many zones site t len4 len6 found c halt e many =
+    subst (λ h. Halts zones (match_exchanges site t c len4 len6 found) h) (sym e)
+    (λ go. if_ends zones (nat_le (length (filter_map exchange_of (bodies_of found))) site.limits.exchanges) (Perm cause.Exchanges (at site t)) c _
+        (lt-leb (length (filter_map exchange_of (bodies_of found))) site.limits.exchanges many))
+
+-- few enough
+pub few_enough : (zones : Answering) (site : Site) (t len4 len6 : ℕ) (found : Answer) (c : Counts) (go : Bool → Counts → Run)
+    → length (filter_map exchange_of (bodies_of found)) ≤ site.limits.exchanges
+    → LeadsTo zones (match_exchanges site t c len4 len6 found go) (match_hosts site t c len4 len6 (is_void found) (filter_map exchange_of (bodies_of found)) go)
+few_enough zones site t len4 len6 found c go few =
+    if_goes zones (nat_le (length (filter_map exchange_of (bodies_of found))) site.limits.exchanges) (Perm cause.Exchanges (at site t)) c
+    (le-leb (length (filter_map exchange_of (bodies_of found))) site.limits.exchanges few) _
+
+-- what a part hands on is what the whole does that it leads on
+pub settled_on : {A : Type 0} (zones : Answering) (whole : (A → Counts → Run) → Run) (part : (A → Run) → Run) (counts : Counts) (result : Result A Halt)
+    → ((go : A → Counts → Run) → LeadsTo zones (whole go) (part (λ x. go x counts))) → IsSettled zones part result → IsJudged zones whole counts result
+settled_on zones whole part counts (Ok x) leads settled = λ go outcome after h. leads go outcome after (settled (λ y. go y counts) outcome after h)
+settled_on {A} zones whole part counts (Err halt) leads settled = halts_through zones whole part (λ (go : A → Counts → Run) x. go x counts) halt leads settled
+
+-- the count of a host's term, and its target text
+pub host_text : (zones : Answering) (site : Site) (t : ℕ) (spec : Option (List Piece)) (c d : Counts) → HandsOn zones (counted site t c) d
+    → (go : Labels → Counts → Run) → LeadsTo zones (with_host site t spec c go) (with_target site t d spec (λ text. with_name (Unsettled cause.Target (at site t)) d (name_of text) (λ name. go name d)))
+host_text zones site t spec c d count go =
+    count (λ counts. with_target site t counts spec (λ text. with_name (Unsettled cause.Target (at site t)) counts (name_of text) (λ name. go name counts)))
+
+pub host_name : (zones : Answering) (site : Site) (t : ℕ) (spec : Option (List Piece)) (c d : Counts) (text : List ℕ) → HandsOn zones (counted site t c) d
+    → HandsOn zones (with_target site t d spec) text
+    → (go : Labels → Counts → Run) → LeadsTo zones (with_host site t spec c go) (with_name (Unsettled cause.Target (at site t)) d (name_of text) (λ name. go name d))
+host_name zones site t spec c d text count settled go = λ outcome after h.
+    host_text zones site t spec c d count go outcome after (settled (λ text. with_name (Unsettled cause.Target (at site t)) d (name_of text) (λ name. go name d)) outcome after h)
+
+-- the same of a record's term
+pub domain_text : (zones : Answering) (site : Site) (t : ℕ) (spec : List Piece) (c d : Counts) → HandsOn zones (counted site t c) d
+    → (go : List ℕ → Labels → Counts → Run) → LeadsTo zones (with_domain site t spec c go) (with_target site t d (Some spec) (λ text. with_name (Perm cause.Missing (at site t)) d (name_of text) (λ name. go text name d)))
+domain_text zones site t spec c d count go =
+    count (λ counts. with_target site t counts (Some spec) (λ text. with_name (Perm cause.Missing (at site t)) counts (name_of text) (λ name. go text name counts)))
+
+pub domain_name : (zones : Answering) (site : Site) (t : ℕ) (spec : List Piece) (c d : Counts) (text : List ℕ) → HandsOn zones (counted site t c) d
+    → HandsOn zones (with_target site t d (Some spec)) text
+    → (go : List ℕ → Labels → Counts → Run) → LeadsTo zones (with_domain site t spec c go) (with_name (Perm cause.Missing (at site t)) d (name_of text) (λ name. go text name d))
+domain_name zones site t spec c d text count settled go = λ outcome after h.
+    domain_text zones site t spec c d count go outcome after (settled (λ text. with_name (Perm cause.Missing (at site t)) d (name_of text) (λ name. go text name d)) outcome after h)

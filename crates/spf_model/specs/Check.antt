@@ -19,7 +19,7 @@ use Rattle.spf_model.specs.declared.outcome.Cause.TheVariants as cause
 use Rattle.spf_model.specs.declared.outcome.Outcome.{Outcome}
 use Rattle.spf_model.specs.declared.outcome.Outcome.TheVariants.{Nothing, Is, Perm, Temp, Unsettled}
 use Rattle.spf_model.specs.Run.{Run, Ends, Asks, Reads, then_do}
-use Rattle.spf_model.specs.Judging.{Labels, Site, Sub, Judge, at, counted, with_target, with_name, name_of, judge}
+use Rattle.spf_model.specs.Judging.{Labels, Site, Sub, Judge, at, with_domain, judge}
 
 -- RFC 7208, section 4.6.4: the limits of a mail receiver
 abbrev pub receiver_limits : Limits
@@ -57,10 +57,7 @@ redirected site t (Unsettled cause place) counts = Ends (Unsettled cause place) 
 abbrev pub default : Site → Sub → ℕ → List Term → Counts → Run
 default site sub t [] counts = Ends (Is Neutral) counts
 default site sub t (Redirect spec ∷ terms) counts =
-    counted site t counts (λ counts.
-    with_target site t counts (Some spec) (λ text.
-    with_name (Perm cause.Missing (at site t)) counts (name_of text) (λ name.
-    then_do (sub text name counts) (redirected site t))))
+    with_domain site t spec counts (λ text name counts. then_do (sub text name counts) (redirected site t))
 default site sub t (Directive verdict mechanism ∷ terms) counts = default site sub (term_after t) terms counts
 default site sub t (Exp spec ∷ terms) counts = default site sub (term_after t) terms counts
 default site sub t (Unknown name value ∷ terms) counts = default site sub (term_after t) terms counts

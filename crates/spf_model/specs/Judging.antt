@@ -104,6 +104,22 @@ abbrev pub with_name : Outcome → Counts → Option Labels → (Labels → Run)
 with_name outcome counts None go = Ends outcome counts
 with_name outcome counts (Some name) go = go name
 
+-- RFC 7208, section 4.8: a term that asks for hosts counts a lookup, and goes on with its target as a name. That one which is no name
+-- is left open is the project's own choice
+abbrev pub with_host : Site → ℕ → Option (List Piece) → Counts → (Labels → Counts → Run) → Run
+with_host site t spec counts go =
+    counted site t counts (λ counts.
+    with_target site t counts spec (λ text.
+    with_name (Unsettled cause.Target (at site t)) counts (name_of text) (λ name. go name counts)))
+
+-- RFC 7208, sections 5.2 and 6.1: a term that asks for a record counts a lookup, and goes on with its target as a text and a name; one
+-- which is no name is an error
+abbrev pub with_domain : Site → ℕ → List Piece → Counts → (List ℕ → Labels → Counts → Run) → Run
+with_domain site t spec counts go =
+    counted site t counts (λ counts.
+    with_target site t counts (Some spec) (λ text.
+    with_name (Perm cause.Missing (at site t)) counts (name_of text) (λ name. go text name counts)))
+
 -- project's own choice: an answer to a term's question that leads out of the zones leaves the run open, and one that goes round
 -- is an error (after RFC 7208, sections 2.6.6 and 5)
 abbrev pub answered : Site → ℕ → Counts → (Answer → Run) → Answer → Run
@@ -212,24 +228,13 @@ judge site sub t (Ip4 p) counts go = go (covers (net.V4 p) site.address) counts
 judge site sub t (Ip6 p) counts go = go (covers (net.V6 p) site.address) counts
 judge site sub t (Ptr spec) counts go = counted site t counts (λ counts. Ends (Unsettled cause.Reverse (at site t)) counts)
 judge site sub t (Include spec) counts go =
-    counted site t counts (λ counts.
-    with_target site t counts (Some spec) (λ text.
-    with_name (Perm cause.Missing (at site t)) counts (name_of text) (λ name.
-    then_do (sub text name counts) (included site t go))))
+    with_domain site t spec counts (λ text name counts. then_do (sub text name counts) (included site t go))
 judge site sub t (A spec len4 len6) counts go =
-    counted site t counts (λ counts.
-    with_target site t counts spec (λ text.
-    with_name (Unsettled cause.Target (at site t)) counts (name_of text) (λ name.
-    match_hosts site t counts len4 len6 false (name ∷ []) go)))
+    with_host site t spec counts (λ name counts. match_hosts site t counts len4 len6 false (name ∷ []) go)
 judge site sub t (Mx spec len4 len6) counts go =
-    counted site t counts (λ counts.
-    with_target site t counts spec (λ text.
-    with_name (Unsettled cause.Target (at site t)) counts (name_of text) (λ name.
-    ask site t counts (record { name = name; kind = kind.Mx }) (λ found.
-    match_exchanges site t counts len4 len6 found go))))
+    with_host site t spec counts (λ name counts.
+    ask site t counts (record { name = name; kind = kind.Mx }) (λ found. match_exchanges site t counts len4 len6 found go))
 judge site sub t (Exists spec) counts go =
-    counted site t counts (λ counts.
-    with_target site t counts (Some spec) (λ text.
-    with_name (Unsettled cause.Target (at site t)) counts (name_of text) (λ name.
+    with_host site t (Some spec) counts (λ name counts.
     ask site t counts (record { name = name; kind = kind.A }) (λ found.
-    void_counted site t (is_void found) counts (λ counts. go (is_found found) counts)))))
+    void_counted site t (is_void found) counts (λ counts. go (is_found found) counts)))

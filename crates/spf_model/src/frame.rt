@@ -1,10 +1,8 @@
 //! The steps that terms of a record have in common (RFC 7208, sections 4.6.4 and 4.8).
-ghost use Rattle.std.specs.Prelude.{◌≡◌, ◌+◌, ◌≤◌, ℕ, IsTrue, IfOk, OnOk, Option, Some, option_map};
-ghost use Rattle.std.specs.List.{list_all};
-ghost use Rattle.spf_macros.specs.Grammar.{is_for_all};
-ghost use Rattle.spf_model.specs.Run.{says};
+ghost use Rattle.std.specs.Prelude.{◌≡◌, ◌+◌, ◌≤◌, ℕ, IfOk, OnOk, MatchResult, List, Some, option_map};
+ghost use Rattle.spf_model.specs.Run.{Run, says};
 ghost use Rattle.spf_model.specs.Judging as judging;
-ghost use Rattle.spf_model.specs.Leads.{site_of, HandsOn, Halts, Leads, IsSettled, TargetFits};
+ghost use Rattle.spf_model.specs.Leads.{site_of, Halts, Leads, LeadsTo, IsSettled, IsJudged, TargetFits};
 ghost use Rattle.spf_model.specs.declared.outcome.Counts.{Counts as CountsSoFar};
 ghost use Rattle.spf_model.specs.declared.outcome.Halt.TheVariants.{Ended};
 ghost use Rattle.spf_model.specs.declared.outcome.Outcome.TheVariants as outcome;
@@ -149,6 +147,43 @@ impl Frame<'_> {
             return Err(self.error(Cause::Missing, term));
         };
         Ok(name)
+    }
+
+    /// Counts a term that asks for hosts, and finds their name (RFC 7208, section 4.8).
+    pub(crate) fn find_host(
+        &self,
+        term: u32,
+        spec: Option<&MacroText>,
+        counts: &mut Counts,
+    ) -> Result<Name, Halt>
+        requires { TargetFits (option_map (λ s. s.now) spec) }
+        ensures found { IsJudged (says self.now.zones.now) (judging.with_host (site_of self.now) term (option_map (λ s. s.now) spec.entry) counts.old) counts.new result }
+        ensures grows { counts.old.lookups ≤ counts.new.lookups }
+    {
+        self.count_lookup(term, counts)?;
+        let text = self.target(term, spec)?;
+        self.host_name(term, text.as_slice())
+    }
+
+    /// Counts a term that asks for a record, and finds the domain as a text and as a name (RFC 7208, section 5.2).
+    pub(crate) fn find_domain(
+        &self,
+        term: u32,
+        spec: &MacroText,
+        counts: &mut Counts,
+    ) -> Result<(Bytes, Name), Halt>
+        requires { TargetFits (Some spec.now) }
+        ensures found { MatchResult result
+            (λ r. (go : List ℕ → List (List ℕ) → CountsSoFar → Run) → LeadsTo (says self.now.zones.now)
+                (judging.with_domain (site_of self.now) term spec.now counts.old go) (go r.0 r.1 counts.new))
+            (Halts (says self.now.zones.now) (judging.with_domain (site_of self.now) term spec.now counts.old)) }
+        ensures risen { OnOk result ((counts.new.lookups ≡ counts.old.lookups + 1) × (counts.new.lookups ≤ self.now.limits.lookups)) }
+        ensures grows { counts.old.lookups ≤ counts.new.lookups }
+    {
+        self.count_lookup(term, counts)?;
+        let text = self.target(term, Some(spec))?;
+        let name = self.domain_name(term, text.as_slice())?;
+        Ok((text, name))
     }
 
     /// The answer of the zones to a question.

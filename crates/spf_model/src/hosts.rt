@@ -1,9 +1,10 @@
 //! The mechanisms that ask for addresses (RFC 7208, sections 5.3, 5.4 and 5.7).
-ghost use Rattle.std.specs.Prelude.{◌≡◌, ◌≤◌, ◌||◌, ℕ, IfOk, map, filter_map, option_map};
+ghost use Rattle.std.specs.Prelude.{◌≡◌, ◌≤◌, ◌||◌, IfOk, Some, map, filter_map, option_map};
 ghost use Rattle.std.specs.List.{list_any};
 ghost use Rattle.spf_model.specs.Run.{says};
 ghost use Rattle.spf_model.specs.Judging as judging;
-ghost use Rattle.spf_model.specs.Leads.{site_of, IsJudged};
+ghost use Rattle.spf_model.specs.Leads.{site_of, IsJudged, TargetFits};
+ghost use Rattle.spf_grammar.specs.declared.policy.Mechanism.TheVariants as mechanism;
 
 use crate::frame::Frame;
 use crate::outcome::Halt;
@@ -11,6 +12,7 @@ use crate::{Cause, Counts};
 use addr_bits::{Address, Prefix};
 use dns_name::Name;
 use master_reader::Body;
+use spf_macros::MacroText;
 use std::alloc::{AllocError, Global};
 use zone_answers::{Answer, QKind};
 
@@ -137,9 +139,67 @@ impl Frame<'_> {
         ensures same { counts.new.lookups ≡ counts.old.lookups }
     {
         let exchanges = exchanges_of(self.alloc, bodies_of(answer))?;
-        if exchanges.len() > self.limits.exchanges as usize {
+        let hosts = exchanges.as_slice();
+        if hosts.len() > self.limits.exchanges as usize {
             return Err(self.error(Cause::Exchanges, term));
         }
-        self.match_hosts(term, lens, is_void(answer), &exchanges, counts)
+        self.match_hosts(term, lens, is_void(answer), hosts, counts)
+    }
+
+    /// Whether `a` matches (RFC 7208, section 5.3).
+    pub(crate) fn match_a(
+        &self,
+        term: u32,
+        spec: Option<&MacroText>,
+        lens: Lens,
+        counts: &mut Counts,
+    ) -> Result<bool, Halt>
+        requires target { TargetFits (option_map (λ s. s.now) spec) }
+        requires len4 { lens.len4 ≤ 32 }
+        requires len6 { lens.len6 ≤ 128 }
+        ensures judged { (sub : judging.Sub) → IsJudged (says self.now.zones.now)
+            (judging.judge (site_of self.now) sub term (mechanism.A (option_map (λ s. s.now) spec.entry) lens.len4 lens.len6) counts.old) counts.new result }
+        ensures grows { counts.old.lookups ≤ counts.new.lookups }
+    {
+        let name = self.find_host(term, spec, counts)?;
+        self.match_hosts(term, lens, false, &[&name], counts)
+    }
+
+    /// Whether `mx` matches (RFC 7208, section 5.4).
+    pub(crate) fn match_mx(
+        &self,
+        term: u32,
+        spec: Option<&MacroText>,
+        lens: Lens,
+        counts: &mut Counts,
+    ) -> Result<bool, Halt>
+        requires target { TargetFits (option_map (λ s. s.now) spec) }
+        requires len4 { lens.len4 ≤ 32 }
+        requires len6 { lens.len6 ≤ 128 }
+        ensures judged { (sub : judging.Sub) → IsJudged (says self.now.zones.now)
+            (judging.judge (site_of self.now) sub term (mechanism.Mx (option_map (λ s. s.now) spec.entry) lens.len4 lens.len6) counts.old) counts.new result }
+        ensures grows { counts.old.lookups ≤ counts.new.lookups }
+    {
+        let name = self.find_host(term, spec, counts)?;
+        let answer = self.ask(term, &name, QKind::Mx)?;
+        self.match_exchanges(term, lens, &answer, counts)
+    }
+
+    /// Whether `exists` matches (RFC 7208, section 5.7).
+    pub(crate) fn match_exists(
+        &self,
+        term: u32,
+        spec: &MacroText,
+        counts: &mut Counts,
+    ) -> Result<bool, Halt>
+        requires { TargetFits (Some spec.now) }
+        ensures judged { (sub : judging.Sub) → IsJudged (says self.now.zones.now)
+            (judging.judge (site_of self.now) sub term (mechanism.Exists spec.now) counts.old) counts.new result }
+        ensures grows { counts.old.lookups ≤ counts.new.lookups }
+    {
+        let name = self.find_host(term, Some(spec), counts)?;
+        let answer = self.ask(term, &name, QKind::A)?;
+        self.count_void(term, is_void(&answer), counts)?;
+        Ok(matches!(answer, Answer::Found(_)))
     }
 }

@@ -4,7 +4,8 @@ use Rattle.dns_name.specs.declared.name.Name.{Name}
 use Rattle.spf_model.specs.Run.{says}
 use Rattle.spf_model.specs.Judging.{match_hosts, void_counted}
 use Rattle.spf_model.specs.Leads.{site_of}
-use Rattle.spf_model.proofs.HostSteps.{step, stops, asked, next, none_left, halts_through}
+use Rattle.spf_model.proofs.HostSteps.{step, stops, asked, next, none_left}
+use Rattle.spf_model.proofs.Parts.{halts_through}
 use Rattle.spf_model.proofs.frame.Frame.match_hosts.Goals as goal
 
 pub returns-in_err-answer-clause-judged : goal.returns-in_err-answer-clause-judged
