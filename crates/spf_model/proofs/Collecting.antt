@@ -28,3 +28,15 @@ pub passed : {B E L : Type 0} (h : B → Option L) (f : E → L) (s : List B) (i
     → map f es ≡ filter_map h (take i s) → None ≡ h x → map f es ≡ filter_map h (take (i + 1) s)
 passed {L = L} h f s i x es within is so_far gives =
     so_far ∙ sym (one_more h s i x within is ∙ ap (λ (l : List L). filter_map h (take i s) ++ l) (only_none h x gives) ∙ append-nil (filter_map h (take i s)))
+
+-- the same of a list as it is
+pub kept_as_is : {B L : Type 0} (h : B → Option L) (s : List B) (i : ℕ) (x : B) (ys new : List L) (y : L) → i < length s → x ≡ get_or s i x
+    → ys ≡ filter_map h (take i s) → Some y ≡ h x → new ≡ ys ++ y ∷ [] → new ≡ filter_map h (take (i + 1) s)
+kept_as_is {L = L} h s i x ys new y within is so_far gives is_new =
+    is_new ∙ ap (λ (l : List L). l ++ y ∷ []) so_far
+    ∙ sym (one_more h s i x within is ∙ ap (λ (l : List L). filter_map h (take i s) ++ l) (only_some h x y gives))
+
+pub passed_as_is : {B L : Type 0} (h : B → Option L) (s : List B) (i : ℕ) (x : B) (ys : List L) → i < length s → x ≡ get_or s i x
+    → ys ≡ filter_map h (take i s) → None ≡ h x → ys ≡ filter_map h (take (i + 1) s)
+passed_as_is {L = L} h s i x ys within is so_far gives =
+    so_far ∙ sym (one_more h s i x within is ∙ ap (λ (l : List L). filter_map h (take i s) ++ l) (only_none h x gives) ∙ append-nil (filter_map h (take i s)))

@@ -1,5 +1,5 @@
 -- check_host of RFC 7208, for one address.
-use Rattle.std.specs.Prelude.{ℕ, zero, suc, ◌+◌, min, List, [], ◌∷◌, filter, filter_map, Option, Some, None, Bool, true, false}
+use Rattle.std.specs.Prelude.{ℕ, zero, suc, ◌+◌, min, List, [], ◌∷◌, filter_map, Option, Some, None, Bool, true, false, if◌then◌else◌}
 use Rattle.std.specs.List.{concat}
 use Rattle.addr_bits.specs.declared.address.Address.{Address}
 use Rattle.master_reader.specs.declared.record.Body.{Body}
@@ -78,6 +78,14 @@ text_of (body.Cname name) = None
 text_of (body.Ns name) = None
 text_of body.Other = None
 
+-- RFC 7208, section 4.5: the text of a TXT record that is an SPF text
+abbrev pub only_if : (List ℕ → Bool) → Option (List ℕ) → Option (List ℕ)
+only_if test None = None
+only_if test (Some text) = if test text then Some text else None
+
+abbrev pub spf_text_of : Body → Option (List ℕ)
+spf_text_of body = only_if is_spf_text (text_of body)
+
 -- RFC 7208, section 4.6: a policy, or the error of a record that the grammar doesn't read
 abbrev pub with_policy : Labels → Counts → Option Policy → (List Term → Run) → Run
 with_policy name counts None go = Ends (Perm cause.Syntax (record { name = name; term = 0 })) counts
@@ -95,7 +103,7 @@ with_answer name counts answer.Outside go = Ends (Unsettled cause.Outside (recor
 with_answer name counts answer.Loop go = Ends (Temp cause.Alias (record { name = name; term = 0 })) counts
 with_answer name counts answer.NoName go = Ends (Nothing (record { name = name; term = 0 })) counts
 with_answer name counts answer.NoData go = Ends (Nothing (record { name = name; term = 0 })) counts
-with_answer name counts (answer.Found bodies) go = with_texts name counts (filter is_spf_text (filter_map text_of bodies)) go
+with_answer name counts (answer.Found bodies) go = with_texts name counts (filter_map spf_text_of bodies) go
 
 -- RFC 7208, sections 4.3 to 4.6: the record of a name of two or more labels
 abbrev pub with_record : Labels → Counts → (List Term → Run) → Run

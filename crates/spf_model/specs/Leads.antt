@@ -1,6 +1,6 @@
 -- What the parts of an evaluation say of the run that they are a part of. A part is what comes after it, led to a run.
-use Rattle.std.specs.Prelude.{◌≡◌, ℕ, ◌≤◌, Bool, IsTrue, List, Option, Some, None, Result, MatchResult}
-use Rattle.std.specs.List.{list_all, AllByRecursion}
+use Rattle.std.specs.Prelude.{◌≡◌, ℕ, ◌≤◌, IsTrue, List, [], ◌∷◌, Option, Some, None, Result, MatchResult}
+use Rattle.std.specs.List.{list_all}
 use Rattle.spf_macros.specs.declared.piece.Piece.{Piece}
 use Rattle.spf_macros.specs.Grammar.{is_for_all}
 use Rattle.spf_grammar.specs.declared.policy.Mechanism.{Mechanism}
@@ -75,4 +75,5 @@ TermFits (Exp spec) = Unit {0}
 TermFits (Unknown name value) = Unit {0}
 
 abbrev pub TermsFit : List Term → Type 0
-TermsFit terms = AllByRecursion TermFits terms
+TermsFit [] = Unit {0}
+TermsFit (term ∷ terms) = TermFits term × TermsFit terms

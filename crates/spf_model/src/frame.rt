@@ -69,6 +69,13 @@ impl Frame<'_> {
         }
     }
 
+    /// The end where there is no record.
+    pub(crate) fn nothing(&self) -> Halt
+        ensures { result ≡ Ended (outcome.Nothing (judging.at (site_of self.now) 0)) }
+    {
+        Halt::Ended(Outcome::Nothing(self.place(0)))
+    }
+
     /// The end by an error in the record.
     pub(crate) fn error(&self, cause: Cause, term: u32) -> Halt
         ensures { result ≡ Ended (outcome.Perm cause (judging.at (site_of self.now) term)) }
@@ -81,6 +88,13 @@ impl Frame<'_> {
         ensures { result ≡ Ended (outcome.Unsettled cause (judging.at (site_of self.now) term)) }
     {
         Halt::Ended(Outcome::Unsettled(cause, self.place(term)))
+    }
+
+    /// The end by aliases that lead on.
+    pub(crate) fn astray(&self, term: u32) -> Halt
+        ensures { result ≡ Ended (outcome.Temp cause.Alias (judging.at (site_of self.now) term)) }
+    {
+        Halt::Ended(Outcome::Temp(Cause::Alias, self.place(term)))
     }
 
     /// Counts a term that asks the DNS (RFC 7208, section 4.6.4).
@@ -201,7 +215,7 @@ impl Frame<'_> {
     {
         match self.answer(name, kind)? {
             Answer::Outside => Err(self.open(Cause::Outside, term)),
-            Answer::Loop => Err(Halt::Ended(Outcome::Temp(Cause::Alias, self.place(term)))),
+            Answer::Loop => Err(self.astray(term)),
             answer => Ok(answer),
         }
     }

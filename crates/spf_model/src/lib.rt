@@ -4,5 +4,6 @@
 mod frame;
 mod hosts;
 mod outcome;
+mod record;
 
 pub use outcome::{Cause, Counts, Limits, Outcome, Place};

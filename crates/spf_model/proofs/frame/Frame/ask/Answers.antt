@@ -12,6 +12,4 @@ pub returns-in-Outside : goal.returns-in-Outside
 returns-in-Outside c = outside (says c.args.self.now.zones.now) (site_of c.args.self.now) c.args.term (record { name = c.args.name.now; kind = c.args.kind }) c.open.result (sym c.in-Outside.is ∙ c.in_ok-answer.ensures) c.open.ensures
 
 pub returns-in-Loop : goal.returns-in-Loop
-returns-in-Loop c =
-    round (says c.args.self.now.zones.now) (site_of c.args.self.now) c.args.term (record { name = c.args.name.now; kind = c.args.kind }) (Ended (Temp cause.Alias c.place.result)) (sym c.in-Loop.is ∙ c.in_ok-answer.ensures)
-    (ap (λ (place : Place). Ended (Temp cause.Alias place)) c.place.ensures)
+returns-in-Loop c = round (says c.args.self.now.zones.now) (site_of c.args.self.now) c.args.term (record { name = c.args.name.now; kind = c.args.kind }) c.astray.result (sym c.in-Loop.is ∙ c.in_ok-answer.ensures) c.astray.ensures
