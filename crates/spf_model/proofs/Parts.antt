@@ -19,7 +19,7 @@ use Rattle.spf_model.specs.declared.outcome.Outcome.{Outcome}
 use Rattle.spf_model.specs.declared.outcome.Outcome.TheVariants.{Perm, Temp, Unsettled}
 use Rattle.spf_model.specs.Run.{Run, Ends, Answering, EndsWith}
 use Rattle.spf_model.specs.Judging.{Site, Labels, at, go_if, counted, void_counted, with_name, with_text, with_target, cause_of, answered, ask, bodies_of, is_void, exchange_of, match_exchanges, match_hosts, with_host, with_domain, name_of}
-use Rattle.spf_model.specs.Leads.{EndsSo, LeadsTo, HandsOn, Halts, IsJudged, IsSettled}
+use Rattle.spf_model.specs.Leads.{EndsSo, LeadsTo, HandsOn, NoVerdict, Halts, IsJudged, IsSettled}
 
 -- a test that fails ends the run
 pub if_ends : (zones : Answering) (test : Bool) (o : Outcome) (c : Counts) (go : Counts → Run) → test ≡ false → EndsSo zones (go_if test o c go) o
@@ -36,23 +36,23 @@ pub counted_full : (zones : Answering) (site : Site) (t : ℕ) (c : Counts) (hal
     → site.limits.lookups ≤ c.lookups → Halts zones (counted site t c) halt
 counted_full zones site t c halt e full =
     subst (λ h. Halts zones (counted site t c) h) (sym e)
-    (λ go. if_ends zones (nat_le (c.lookups + 1) site.limits.lookups) (Perm cause.Lookups (at site t)) _ go (lt-leb (c.lookups + 1) site.limits.lookups (omega (arith, full))))
+    (tt, λ go. if_ends zones (nat_le (c.lookups + 1) site.limits.lookups) (Perm cause.Lookups (at site t)) _ go (lt-leb (c.lookups + 1) site.limits.lookups (omega (arith, full))))
 
 -- the count of voids is full
 pub void_full : (zones : Answering) (site : Site) (t : ℕ) (c : Counts) (halt : Halt) → halt ≡ Ended (Perm cause.Voids (at site t))
     → site.limits.voids ≤ c.voids → Halts zones (void_counted site t true c) halt
 void_full zones site t c halt e full =
     subst (λ h. Halts zones (void_counted site t true c) h) (sym e)
-    (λ go. if_ends zones (nat_le (c.voids + 1) site.limits.voids) (Perm cause.Voids (at site t)) _ go (lt-leb (c.voids + 1) site.limits.voids (omega (arith, full))))
+    (tt, λ go. if_ends zones (nat_le (c.voids + 1) site.limits.voids) (Perm cause.Voids (at site t)) _ go (lt-leb (c.voids + 1) site.limits.voids (omega (arith, full))))
 
 -- a name
 pub named : (zones : Answering) (o : Outcome) (found : Option Labels) (name : Labels) → found ≡ Some name → (c : Counts) → HandsOn zones (with_name o c found) name
 named zones o found name e c = subst (λ f. HandsOn zones (with_name o c f) name) (sym e) (λ go outcome after h. h)
 
 -- no name
-pub unnamed : (zones : Answering) (o : Outcome) (found : Option Labels) (halt : Halt) → found ≡ None → halt ≡ Ended o → (c : Counts) → Halts zones (with_name o c found) halt
-unnamed zones o found halt e f c =
-    subst (λ n. Halts zones (with_name o c n) halt) (sym e) (subst (λ h. Halts zones (with_name o c None) h) (sym f) (λ go. (c, (refl, refl))))
+pub unnamed : (zones : Answering) (o : Outcome) (found : Option Labels) (halt : Halt) → found ≡ None → halt ≡ Ended o → NoVerdict o → (c : Counts) → Halts zones (with_name o c found) halt
+unnamed zones o found halt e f none c =
+    subst (λ n. Halts zones (with_name o c n) halt) (sym e) (subst (λ h. Halts zones (with_name o c None) h) (sym f) (none, λ go. (c, (refl, refl))))
 
 -- a target text
 pub expanded : (zones : Answering) (site : Site) (t : ℕ) (spec : List Piece) (text : List ℕ) → Out text ≡ target (family_of site.address) site.domain spec
@@ -63,20 +63,20 @@ expanded zones site t spec text e c = subst (λ x. HandsOn zones (with_text site
 pub needed : (zones : Answering) (site : Site) (t : ℕ) (spec : List Piece) (need : Need) (halt : Halt) → Needs need ≡ target (family_of site.address) site.domain spec
     → halt ≡ Ended (Unsettled (cause_of need) (at site t)) → (c : Counts) → Halts zones (with_target site t c (Some spec)) halt
 needed zones site t spec need halt e f c =
-    subst (λ x. Halts zones (with_text site t c x) halt) e (subst (λ h. Halts zones (with_text site t c (Needs need)) h) (sym f) (λ go. (c, (refl, refl))))
+    subst (λ x. Halts zones (with_text site t c x) halt) e (subst (λ h. Halts zones (with_text site t c (Needs need)) h) (sym f) (tt, λ go. (c, (refl, refl))))
 
 -- an answer that ends a term
 pub outside : (zones : Answering) (site : Site) (t : ℕ) (q : Question) (halt : Halt) → answer.Outside ≡ zones q → halt ≡ Ended (Unsettled cause.Outside (at site t))
     → (c : Counts) → Halts zones (ask site t c q) halt
 outside zones site t q halt e f c =
     subst (λ h. Halts zones (ask site t c q) h) (sym f)
-    (λ go. (c, subst (λ found. EndsWith zones (answered site t c go found) (Unsettled cause.Outside (at site t)) c) e (refl, refl)))
+    (tt, λ go. (c, subst (λ found. EndsWith zones (answered site t c go found) (Unsettled cause.Outside (at site t)) c) e (refl, refl)))
 
 pub round : (zones : Answering) (site : Site) (t : ℕ) (q : Question) (halt : Halt) → answer.Loop ≡ zones q → halt ≡ Ended (Temp cause.Alias (at site t))
     → (c : Counts) → Halts zones (ask site t c q) halt
 round zones site t q halt e f c =
     subst (λ h. Halts zones (ask site t c q) h) (sym f)
-    (λ go. (c, subst (λ found. EndsWith zones (answered site t c go found) (Temp cause.Alias (at site t)) c) e (refl, refl)))
+    (tt, λ go. (c, subst (λ found. EndsWith zones (answered site t c go found) (Temp cause.Alias (at site t)) c) e (refl, refl)))
 
 -- an answer that goes on
 goes_on : (zones : Answering) (site : Site) (t : ℕ) (c : Counts) (found : Answer) → found ≢ answer.Outside → found ≢ answer.Loop
@@ -95,7 +95,7 @@ told zones site t q found e n m c =
 -- a part of a part ends what it is a part of
 pub halts_through : {G H : Type 0} (zones : Answering) (whole : H → Run) (part : G → Run) (inner : H → G) (halt : Halt)
     → ((go : H) → LeadsTo zones (whole go) (part (inner go))) → Halts zones part halt → Halts zones whole halt
-halts_through zones whole part inner (Ended o) leads halts = λ go. let e = halts (inner go) in (e.0, leads go o e.0 e.1)
+halts_through zones whole part inner (Ended o) leads halts = (halts.0, λ go. let e = halts.1 (inner go) in (e.0, leads go o e.0 e.1))
 halts_through zones whole part inner Memory leads halts = tt
 
 -- what a part is judged is what the whole is that it leads on
@@ -109,7 +109,7 @@ pub too_many : (zones : Answering) (site : Site) (t len4 len6 : ℕ) (found : An
     → site.limits.exchanges < length (filter_map exchange_of (bodies_of found)) → Halts zones (match_exchanges site t c len4 len6 found) halt
 too_many zones site t len4 len6 found c halt e many =
     subst (λ h. Halts zones (match_exchanges site t c len4 len6 found) h) (sym e)
-    (λ go. if_ends zones (nat_le (length (filter_map exchange_of (bodies_of found))) site.limits.exchanges) (Perm cause.Exchanges (at site t)) c _
+    (tt, λ go. if_ends zones (nat_le (length (filter_map exchange_of (bodies_of found))) site.limits.exchanges) (Perm cause.Exchanges (at site t)) c _
         (lt-leb (length (filter_map exchange_of (bodies_of found))) site.limits.exchanges many))
 
 -- few enough

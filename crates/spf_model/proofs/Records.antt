@@ -35,14 +35,14 @@ settled_through {A} zones whole part (Err halt) leads settled = halts_through zo
 pub no_text : (zones : Answering) (name : Labels) (texts : List (List ℕ)) (halt : Halt) → texts ≡ [] → halt ≡ Ended (Nothing (record { name = name; term = 0 }))
     → (c : Counts) → Halts zones (with_texts name c texts) halt
 no_text zones name texts halt e f c =
-    subst (λ ts. Halts zones (with_texts name c ts) halt) (sym e) (subst (λ h. Halts zones (with_texts name c []) h) (sym f) (λ go. (c, (refl, refl))))
+    subst (λ ts. Halts zones (with_texts name c ts) halt) (sym e) (subst (λ h. Halts zones (with_texts name c []) h) (sym f) (tt, λ go. (c, (refl, refl))))
 
 pub many_texts : (zones : Answering) (name : Labels) (texts : List (List ℕ)) (halt : Halt) → 2 ≤ length texts → halt ≡ Ended (Perm cause.Records (record { name = name; term = 0 }))
     → (c : Counts) → Halts zones (with_texts name c texts) halt
 many_texts zones name [] halt e f c = absurd (omega (arith, e))
 many_texts zones name (text ∷ []) halt e f c = absurd (omega (arith, e))
 many_texts zones name (text ∷ next ∷ texts) halt e f c =
-    subst (λ h. Halts zones (with_texts name c (text ∷ next ∷ texts)) h) (sym f) (λ go. (c, (refl, refl)))
+    subst (λ h. Halts zones (with_texts name c (text ∷ next ∷ texts)) h) (sym f) (tt, λ go. (c, (refl, refl)))
 
 -- a list of one item
 pub one_item : {L : Type 0} (xs : List L) (x : L) → 1 ≤ length xs → length xs < 2 → x ≡ get_or xs 0 x → xs ≡ x ∷ []
@@ -54,14 +54,14 @@ one_item (y ∷ z ∷ xs) x least below e = absurd (omega (arith, below))
 pub unread : (zones : Answering) (name : Labels) (text : List ℕ) (policy : Option Policy) (halt : Halt) → ReadAs text policy → policy ≡ None
     → halt ≡ Ended (Perm cause.Syntax (record { name = name; term = 0 })) → (c : Counts) → Halts zones (with_texts name c (text ∷ [])) halt
 unread zones name text policy halt reads e f c =
-    subst (λ h. Halts zones (with_texts name c (text ∷ [])) h) (sym f) (λ go. (c, (None, subst (ReadAs text) e reads, (refl, refl))))
+    subst (λ h. Halts zones (with_texts name c (text ∷ [])) h) (sym f) (tt, λ go. (c, (None, subst (ReadAs text) e reads, (refl, refl))))
 
 -- ---- the answer
 
 pub few_labels : (zones : Answering) (name : Labels) (halt : Halt) → length name < 2 → halt ≡ Ended (Nothing (record { name = name; term = 0 }))
     → (c : Counts) → Halts zones (with_record name c) halt
-few_labels zones [] halt few e c = subst (λ h. Halts zones (with_record [] c) h) (sym e) (λ go. (c, (refl, refl)))
-few_labels zones (label ∷ []) halt few e c = subst (λ h. Halts zones (with_record (label ∷ []) c) h) (sym e) (λ go. (c, (refl, refl)))
+few_labels zones [] halt few e c = subst (λ h. Halts zones (with_record [] c) h) (sym e) (tt, λ go. (c, (refl, refl)))
+few_labels zones (label ∷ []) halt few e c = subst (λ h. Halts zones (with_record (label ∷ []) c) h) (sym e) (tt, λ go. (c, (refl, refl)))
 few_labels zones (label ∷ next ∷ labels) halt few e c = absurd (omega (arith, few))
 
 -- a name of enough labels is asked for
@@ -81,23 +81,23 @@ pub found_outside : (zones : Answering) (name : Labels) (found : Answer) (halt :
     → halt ≡ Ended (Unsettled cause.Outside (record { name = name; term = 0 })) → (c : Counts) → Halts zones (with_record name c) halt
 found_outside zones name found halt many e is f c =
     halts_through zones (with_record name c) (with_answer name c answer.Outside) (λ go. go) halt (answered_with zones name answer.Outside many (sym is ∙ e) c)
-    (subst (λ h. Halts zones (with_answer name c answer.Outside) h) (sym f) (λ go. (c, (refl, refl))))
+    (subst (λ h. Halts zones (with_answer name c answer.Outside) h) (sym f) (tt, λ go. (c, (refl, refl))))
 
 pub found_round : (zones : Answering) (name : Labels) (found : Answer) (halt : Halt) → 2 ≤ length name → found ≡ zones (record { name = name; kind = kind.Txt }) → found ≡ answer.Loop
     → halt ≡ Ended (Temp cause.Alias (record { name = name; term = 0 })) → (c : Counts) → Halts zones (with_record name c) halt
 found_round zones name found halt many e is f c =
     halts_through zones (with_record name c) (with_answer name c answer.Loop) (λ go. go) halt (answered_with zones name answer.Loop many (sym is ∙ e) c)
-    (subst (λ h. Halts zones (with_answer name c answer.Loop) h) (sym f) (λ go. (c, (refl, refl))))
+    (subst (λ h. Halts zones (with_answer name c answer.Loop) h) (sym f) (tt, λ go. (c, (refl, refl))))
 
 pub found_nothing : (zones : Answering) (name : Labels) (found : Answer) (halt : Halt) → 2 ≤ length name → found ≡ zones (record { name = name; kind = kind.Txt })
     → (found ≡ answer.NoName) ⊎ (found ≡ answer.NoData)
     → halt ≡ Ended (Nothing (record { name = name; term = 0 })) → (c : Counts) → Halts zones (with_record name c) halt
 found_nothing zones name found halt many e (inl is) f c =
     halts_through zones (with_record name c) (with_answer name c answer.NoName) (λ go. go) halt (answered_with zones name answer.NoName many (sym is ∙ e) c)
-    (subst (λ h. Halts zones (with_answer name c answer.NoName) h) (sym f) (λ go. (c, (refl, refl))))
+    (subst (λ h. Halts zones (with_answer name c answer.NoName) h) (sym f) (tt, λ go. (c, (refl, refl))))
 found_nothing zones name found halt many e (inr is) f c =
     halts_through zones (with_record name c) (with_answer name c answer.NoData) (λ go. go) halt (answered_with zones name answer.NoData many (sym is ∙ e) c)
-    (subst (λ h. Halts zones (with_answer name c answer.NoData) h) (sym f) (λ go. (c, (refl, refl))))
+    (subst (λ h. Halts zones (with_answer name c answer.NoData) h) (sym f) (tt, λ go. (c, (refl, refl))))
 
 -- ---- terms that the grammar reads can be judged
 

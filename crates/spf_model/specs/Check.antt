@@ -7,6 +7,7 @@ use Rattle.master_reader.specs.declared.record.Body.TheVariants as body
 use Rattle.zone_answers.specs.declared.answer.QKind.TheVariants as kind
 use Rattle.zone_answers.specs.declared.answer.Answer.{Answer}
 use Rattle.zone_answers.specs.declared.answer.Answer.TheVariants as answer
+use Rattle.spf_macros.specs.declared.piece.Piece.{Piece}
 use Rattle.spf_text.specs.Version.{is_spf_text}
 use Rattle.spf_grammar.specs.declared.verdict.Verdict.{Verdict}
 use Rattle.spf_grammar.specs.declared.verdict.Verdict.TheVariants.{Neutral}
@@ -18,8 +19,8 @@ use Rattle.spf_model.specs.declared.outcome.Counts.{Counts}
 use Rattle.spf_model.specs.declared.outcome.Cause.TheVariants as cause
 use Rattle.spf_model.specs.declared.outcome.Outcome.{Outcome}
 use Rattle.spf_model.specs.declared.outcome.Outcome.TheVariants.{Nothing, Is, Perm, Temp, Unsettled}
-use Rattle.spf_model.specs.Run.{Run, Ends, Asks, Reads, then_do}
-use Rattle.spf_model.specs.Judging.{Labels, Site, Sub, Judge, at, with_domain, judge}
+use Rattle.spf_model.specs.Run.{Run, Ends, Asks, Reads}
+use Rattle.spf_model.specs.Judging.{Labels, Site, Sub, Judge, with_verdict, judge}
 
 -- RFC 7208, section 4.6.4: the limits of a mail receiver
 abbrev pub receiver_limits : Limits
@@ -36,35 +37,34 @@ unless_matched verdict next false counts = next counts
 abbrev pub term_after : ℕ → ℕ
 term_after t = min (t + 1) 4294967295
 
+-- RFC 7208, section 4.6.2: a directive, and what comes after it; a modifier is passed over
+abbrev pub trying : Judge → ℕ → Term → Counts → (Counts → Run) → Run
+trying judges t (Directive verdict mechanism) counts next = judges t mechanism counts (unless_matched verdict next)
+trying judges t (Redirect spec) counts next = next counts
+trying judges t (Exp spec) counts next = next counts
+trying judges t (Unknown name value) counts next = next counts
+
 -- RFC 7208, sections 4.6.2 and 4.7: the directives in order, where terms are numbered from t; then what comes where none matches
-abbrev pub tried : Judge → (Counts → Run) → ℕ → List Term → Counts → Run
-tried judges last t [] counts = last counts
-tried judges last t (Directive verdict mechanism ∷ terms) counts =
-    judges t mechanism counts (unless_matched verdict (tried judges last (term_after t) terms))
-tried judges last t (Redirect spec ∷ terms) counts = tried judges last (term_after t) terms counts
-tried judges last t (Exp spec ∷ terms) counts = tried judges last (term_after t) terms counts
-tried judges last t (Unknown name value ∷ terms) counts = tried judges last (term_after t) terms counts
+abbrev pub tried : Judge → ℕ → List Term → Counts → (Counts → Run) → Run
+tried judges t [] counts last = last counts
+tried judges t (term ∷ terms) counts last = trying judges t term counts (λ counts. tried judges (term_after t) terms counts last)
 
--- RFC 7208, section 6.1: what a redirect makes of its target's outcome: that it has none is an error
-abbrev pub redirected : Site → ℕ → Outcome → Counts → Run
-redirected site t (Nothing place) counts = Ends (Perm cause.Missing (at site t)) counts
-redirected site t (Is verdict) counts = Ends (Is verdict) counts
-redirected site t (Perm cause place) counts = Ends (Perm cause place) counts
-redirected site t (Temp cause place) counts = Ends (Temp cause place) counts
-redirected site t (Unsettled cause place) counts = Ends (Unsettled cause place) counts
+-- RFC 7208, section 6.1: the redirect of a record, with the number of its term
+abbrev pub redirect_from : ℕ → List Term → Option (ℕ × List Piece)
+redirect_from t [] = None
+redirect_from t (Redirect spec ∷ terms) = Some (t, spec)
+redirect_from t (Directive verdict mechanism ∷ terms) = redirect_from (term_after t) terms
+redirect_from t (Exp spec ∷ terms) = redirect_from (term_after t) terms
+redirect_from t (Unknown name value ∷ terms) = redirect_from (term_after t) terms
 
--- RFC 7208, sections 4.7 and 6.1: neutral where no directive matches, and the target's outcome where there is a redirect
-abbrev pub default : Site → Sub → ℕ → List Term → Counts → Run
-default site sub t [] counts = Ends (Is Neutral) counts
-default site sub t (Redirect spec ∷ terms) counts =
-    with_domain site t spec counts (λ text name counts. then_do (sub text name counts) (redirected site t))
-default site sub t (Directive verdict mechanism ∷ terms) counts = default site sub (term_after t) terms counts
-default site sub t (Exp spec ∷ terms) counts = default site sub (term_after t) terms counts
-default site sub t (Unknown name value ∷ terms) counts = default site sub (term_after t) terms counts
+-- RFC 7208, sections 4.7 and 6.1: neutral where no directive matches, and the target's verdict where there is a redirect
+abbrev pub default : Site → Sub → Counts → Option (ℕ × List Piece) → Run
+default site sub counts None = Ends (Is Neutral) counts
+default site sub counts (Some redirect) = with_verdict site sub redirect.0 redirect.1 counts (λ verdict counts. Ends (Is verdict) counts)
 
 -- a record's outcome: its directives, and then its default
 abbrev pub evaluated : Site → Sub → List Term → Counts → Run
-evaluated site sub terms counts = tried (judge site sub) (default site sub 1 terms) 1 terms counts
+evaluated site sub terms counts = tried (judge site sub) 1 terms counts (λ counts. default site sub counts (redirect_from 1 terms))
 
 -- ---- the record of a name
 

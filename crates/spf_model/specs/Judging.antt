@@ -22,6 +22,7 @@ use Rattle.spf_macros.specs.declared.expansion.Expanded.TheVariants.{Out, Needs}
 use Rattle.spf_macros.specs.Expansion.{target}
 use Rattle.spf_grammar.specs.Flat.{agrees, covers}
 use Rattle.spf_grammar.specs.declared.flat.Net.TheVariants as net
+use Rattle.spf_grammar.specs.declared.verdict.Verdict.{Verdict}
 use Rattle.spf_grammar.specs.declared.verdict.Verdict.TheVariants.{Pass, Fail, SoftFail, Neutral}
 use Rattle.spf_grammar.specs.declared.policy.Mechanism.{Mechanism}
 use Rattle.spf_grammar.specs.declared.policy.Mechanism.TheVariants.{All, Include, A, Mx, Ptr, Ip4, Ip6, Exists}
@@ -210,16 +211,26 @@ match_exchanges site t counts len4 len6 found go =
     go_if (nat_le (length exchanges) site.limits.exchanges) (Perm cause.Exchanges (at site t)) counts
     (λ counts. match_hosts site t counts len4 len6 (is_void found) exchanges go)
 
--- RFC 7208, section 5.2: what an included record says of the term that includes it
-abbrev pub included : Site → ℕ → (Bool → Counts → Run) → Outcome → Counts → Run
-included site t go (Is Pass) counts = go true counts
-included site t go (Is Fail) counts = go false counts
-included site t go (Is SoftFail) counts = go false counts
-included site t go (Is Neutral) counts = go false counts
-included site t go (Nothing place) counts = Ends (Perm cause.Missing (at site t)) counts
-included site t go (Perm cause place) counts = Ends (Perm cause place) counts
-included site t go (Temp cause place) counts = Ends (Temp cause place) counts
-included site t go (Unsettled cause place) counts = Ends (Unsettled cause place) counts
+-- RFC 7208, sections 5.2 and 6.1: what a term makes of the outcome of the record that it asks for. It goes on with a verdict; that there
+-- is no record is an error; everything else ends it
+abbrev pub judged_by : Site → ℕ → (Verdict → Counts → Run) → Outcome → Counts → Run
+judged_by site t go (Is verdict) counts = go verdict counts
+judged_by site t go (Nothing place) counts = Ends (Perm cause.Missing (at site t)) counts
+judged_by site t go (Perm cause place) counts = Ends (Perm cause place) counts
+judged_by site t go (Temp cause place) counts = Ends (Temp cause place) counts
+judged_by site t go (Unsettled cause place) counts = Ends (Unsettled cause place) counts
+
+-- RFC 7208, sections 5.2 and 6.1: the verdict of the record that a term asks for; the counts go on
+abbrev pub with_verdict : Site → Sub → ℕ → List Piece → Counts → (Verdict → Counts → Run) → Run
+with_verdict site sub t spec counts go =
+    with_domain site t spec counts (λ text name counts. then_do (sub text name counts) (judged_by site t go))
+
+-- RFC 7208, section 5.2: an include matches where its record passes the address
+abbrev pub is_pass : Verdict → Bool
+is_pass Pass = true
+is_pass Fail = false
+is_pass SoftFail = false
+is_pass Neutral = false
 
 -- RFC 7208, section 5: whether a mechanism matches, and the counts after it
 abbrev pub judge : Site → Sub → Judge
@@ -228,7 +239,7 @@ judge site sub t (Ip4 p) counts go = go (covers (net.V4 p) site.address) counts
 judge site sub t (Ip6 p) counts go = go (covers (net.V6 p) site.address) counts
 judge site sub t (Ptr spec) counts go = counted site t counts (λ counts. Ends (Unsettled cause.Reverse (at site t)) counts)
 judge site sub t (Include spec) counts go =
-    with_domain site t spec counts (λ text name counts. then_do (sub text name counts) (included site t go))
+    with_verdict site sub t spec counts (λ verdict. go (is_pass verdict))
 judge site sub t (A spec len4 len6) counts go =
     with_host site t spec counts (λ name counts. match_hosts site t counts len4 len6 false (name ∷ []) go)
 judge site sub t (Mx spec len4 len6) counts go =

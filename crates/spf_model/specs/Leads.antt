@@ -1,20 +1,22 @@
 -- What the parts of an evaluation say of the run that they are a part of. A part is what comes after it, led to a run.
-use Rattle.std.specs.Prelude.{◌≡◌, ℕ, ◌≤◌, IsTrue, List, [], ◌∷◌, Option, Some, None, Result, MatchResult}
+use Rattle.std.specs.Prelude.{◌≡◌, ℕ, ◌≤◌, IsTrue, List, [], ◌∷◌, Option, Some, None, Result, Ok, Err, MatchResult, MatchOption}
 use Rattle.std.specs.List.{list_all}
 use Rattle.spf_macros.specs.declared.piece.Piece.{Piece}
 use Rattle.spf_macros.specs.Grammar.{is_for_all}
+use Rattle.spf_grammar.specs.declared.verdict.Verdict.{Verdict}
 use Rattle.spf_grammar.specs.declared.policy.Mechanism.{Mechanism}
 use Rattle.spf_grammar.specs.declared.policy.Mechanism.TheVariants.{All, Include, A, Mx, Ptr, Ip4, Ip6, Exists}
 use Rattle.spf_grammar.specs.declared.policy.Term.{Term}
 use Rattle.spf_grammar.specs.declared.policy.Term.TheVariants.{Directive, Redirect, Exp, Unknown}
 use Rattle.spf_model.specs.declared.frame.Frame.{Frame}
+use Rattle.spf_model.specs.declared.outcome.Cause.TheVariants as cause
 use Rattle.spf_model.specs.declared.outcome.Counts.{Counts}
 use Rattle.spf_model.specs.declared.outcome.Halt.{Halt}
 use Rattle.spf_model.specs.declared.outcome.Halt.TheVariants.{Ended, Memory}
 use Rattle.spf_model.specs.declared.outcome.Outcome.{Outcome}
 use Rattle.spf_model.specs.declared.outcome.Outcome.TheVariants.{Nothing, Is, Perm, Temp, Unsettled}
 use Rattle.spf_model.specs.Run.{Run, Answering, EndsWith}
-use Rattle.spf_model.specs.Judging.{Site}
+use Rattle.spf_model.specs.Judging.{Site, at}
 
 -- what a frame judges by
 abbrev pub site_of : Frame → Site
@@ -32,9 +34,17 @@ EndsSo zones run outcome = (after : Counts) × EndsWith zones run outcome after
 abbrev pub HandsOn : {A : Type 0} → Answering → ((A → Run) → Run) → A → Type 0
 HandsOn {A} zones part x = (go : A → Run) → LeadsTo zones (part go) (go x)
 
+-- the outcome is no verdict, so no run goes on after it
+abbrev pub NoVerdict : Outcome → Type 0
+NoVerdict (Is verdict) = ⊥
+NoVerdict (Nothing place) = Unit {0}
+NoVerdict (Perm cause place) = Unit {0}
+NoVerdict (Temp cause place) = Unit {0}
+NoVerdict (Unsettled cause place) = Unit {0}
+
 -- the part ends the run, whatever comes after; without memory nothing is said
 abbrev pub Halts : {G : Type 0} → Answering → (G → Run) → Halt → Type 0
-Halts {G} zones part (Ended outcome) = (go : G) → EndsSo zones (part go) outcome
+Halts {G} zones part (Ended outcome) = NoVerdict outcome × ((go : G) → EndsSo zones (part go) outcome)
 Halts {G} zones part Memory = Unit {0}
 
 -- a part that hands its result on
@@ -49,6 +59,29 @@ Leads zones part counts result = MatchResult result (λ _. HandsOn zones part co
 abbrev pub IsJudged : {A : Type 0} → Answering → ((A → Counts → Run) → Run) → Counts → Result A Halt → Type 0
 IsJudged {A} zones part counts result =
     MatchResult result (λ x. (go : A → Counts → Run) → LeadsTo zones (part go) (go x counts)) (Halts zones part)
+
+-- a run that ends with a verdict and these counts, or otherwise
+abbrev pub IsVerdictOf : Answering → Run → Counts → Result Verdict Halt → Type 0
+IsVerdictOf zones run counts result = MatchResult result (λ verdict. EndsWith zones run (Is verdict) counts) (Halts zones (λ (u : Unit {0}). run))
+
+-- that a term's record does not exist is an error of the term
+abbrev pub required_halt : Site → ℕ → Halt → Halt
+required_halt site t (Ended (Nothing place)) = Ended (Perm cause.Missing (at site t))
+required_halt site t (Ended (Is verdict)) = Ended (Is verdict)
+required_halt site t (Ended (Perm cause place)) = Ended (Perm cause place)
+required_halt site t (Ended (Temp cause place)) = Ended (Temp cause place)
+required_halt site t (Ended (Unsettled cause place)) = Ended (Unsettled cause place)
+required_halt site t Memory = Memory
+
+abbrev pub required_of : Site → ℕ → Result Verdict Halt → Result Verdict Halt
+required_of site t (Ok verdict) = Ok verdict
+required_of site t (Err halt) = Err (required_halt site t halt)
+
+-- a part that ends with the verdict of a directive, or hands the counts on
+abbrev pub IsTried : Answering → ((Counts → Run) → Run) → Counts → Result (Option Verdict) Halt → Type 0
+IsTried zones part counts result =
+    MatchResult result (λ found. MatchOption found (HandsOn zones part counts) (λ verdict. (go : Counts → Run) → EndsWith zones (part go) (Is verdict) counts))
+    (Halts zones part)
 
 -- ---- terms that can be judged
 

@@ -2,3 +2,4 @@ pub mod Run
 pub mod Judging
 pub mod Check
 pub mod Leads
+pub mod Laws

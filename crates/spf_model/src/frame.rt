@@ -17,6 +17,7 @@ use std::alloc::{AllocError, Global};
 use zone_answers::{Answer, QKind, Zones};
 
 /// What the terms of a record are judged by.
+#[derive(Clone, Copy)]
 pub(crate) struct Frame<'a> {
     pub(crate) alloc: Global,
     pub(crate) zones: &'a Zones,

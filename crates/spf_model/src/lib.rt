@@ -1,6 +1,7 @@
 //! check_host of RFC 7208 for one address, over lent zones.
 #![tactic(auto)]
 
+mod check;
 mod frame;
 mod hosts;
 mod outcome;
