@@ -11,6 +11,7 @@ use Rattle.spf_macros.specs.declared.expansion.Expanded.{Expanded}
 use Rattle.spf_macros.specs.declared.expansion.Expanded.TheVariants.{Out, Needs}
 use Rattle.spf_macros.specs.Expansion.{target}
 use Rattle.addr_bits.specs.Address.{family_of}
+use Rattle.spf_grammar.specs.declared.policy.Mechanism.TheVariants.{Ptr}
 use Rattle.spf_model.specs.declared.outcome.Cause.TheVariants as cause
 use Rattle.spf_model.specs.declared.outcome.Counts.{Counts}
 use Rattle.spf_model.specs.declared.outcome.Halt.{Halt}
@@ -18,7 +19,7 @@ use Rattle.spf_model.specs.declared.outcome.Halt.TheVariants.{Ended, Memory}
 use Rattle.spf_model.specs.declared.outcome.Outcome.{Outcome}
 use Rattle.spf_model.specs.declared.outcome.Outcome.TheVariants.{Perm, Temp, Unsettled}
 use Rattle.spf_model.specs.Run.{Run, Ends, Answering, EndsWith}
-use Rattle.spf_model.specs.Judging.{Site, Labels, at, go_if, counted, void_counted, with_name, with_text, with_target, cause_of, answered, ask, bodies_of, is_void, exchange_of, match_exchanges, match_hosts, with_host, with_domain, name_of}
+use Rattle.spf_model.specs.Judging.{Site, Sub, Labels, judge, at, go_if, counted, void_counted, with_name, with_text, with_target, cause_of, answered, ask, bodies_of, is_void, exchange_of, match_exchanges, match_hosts, with_host, with_domain, name_of}
 use Rattle.spf_model.specs.Leads.{EndsSo, LeadsTo, HandsOn, NoVerdict, Halts, IsJudged, IsSettled}
 
 -- a test that fails ends the run
@@ -149,3 +150,10 @@ pub domain_name : (zones : Answering) (site : Site) (t : ℕ) (spec : List Piece
     → (go : List ℕ → Labels → Counts → Run) → LeadsTo zones (with_domain site t spec c go) (with_name (Perm cause.Missing (at site t)) d (name_of text) (λ name. go text name d))
 domain_name zones site t spec c d text count settled go = λ outcome after h.
     domain_text zones site t spec c d count go outcome after (settled (λ text. with_name (Perm cause.Missing (at site t)) d (name_of text) (λ name. go text name d)) outcome after h)
+
+-- `ptr` counts, and is left open
+pub ptr_halts : (zones : Answering) (site : Site) (sub : Sub) (t : ℕ) (spec : Option (List Piece)) (c d : Counts) (halt : Halt) → halt ≡ Ended (Unsettled cause.Reverse (at site t))
+    → HandsOn zones (counted site t c) d → Halts zones (judge site sub t (Ptr spec) c) halt
+ptr_halts zones site sub t spec c d halt e count =
+    subst (λ h. Halts zones (judge site sub t (Ptr spec) c) h) (sym e)
+    (tt, λ go. (d, count (λ counts. Ends (Unsettled cause.Reverse (at site t)) counts) (Unsettled cause.Reverse (at site t)) d (refl, refl)))

@@ -35,6 +35,13 @@ fn covers6(prefix: Prefix<u128>, address: Address) -> bool
     }
 }
 
+/// Whether a record passes the address (RFC 7208, section 5.2).
+fn is_pass(verdict: Verdict) -> bool
+    ensures { result ≡ judging.is_pass verdict }
+{
+    verdict == Verdict::Pass
+}
+
 /// The redirect of a record, with the number of its term (RFC 7208, section 6.1).
 fn redirect_of(terms: &[Term]) -> Option<(u32, &MacroText)>
     ensures { option_map (λ r. (r.0, r.1.now)) result ≡ checking.redirect_from 1 terms.now }
@@ -104,7 +111,7 @@ impl Frame<'_> {
             Mechanism::Ip6(prefix) => Ok(covers6(*prefix, self.address)),
             Mechanism::Include(spec) => {
                 let verdict = self.judge_target(term, spec, counts)?;
-                Ok(verdict == Verdict::Pass)
+                Ok(is_pass(verdict))
             }
             Mechanism::A(spec, len4, len6) => {
                 let lens = Lens {
@@ -121,10 +128,7 @@ impl Frame<'_> {
                 self.match_mx(term, spec.as_ref(), lens, counts)
             }
             Mechanism::Exists(spec) => self.match_exists(term, spec, counts),
-            Mechanism::Ptr(_) => {
-                self.count_lookup(term, counts)?;
-                Err(self.open(Cause::Reverse, term))
-            }
+            Mechanism::Ptr(_) => self.match_ptr(term, counts),
         }
     }
 
@@ -144,11 +148,11 @@ impl Frame<'_> {
         let Term::Directive(verdict, mechanism) = term else {
             return Ok(None);
         };
-        if self.matches(number, mechanism, counts)? {
-            Ok(Some(*verdict))
-        } else {
-            Ok(None)
+        let matched = self.matches(number, mechanism, counts)?;
+        if matched {
+            return Ok(Some(*verdict));
         }
+        Ok(None)
     }
 
     /// The verdict of the first directive that matches (RFC 7208, section 4.6.2).

@@ -1,6 +1,7 @@
 //! The mechanisms that ask for addresses (RFC 7208, sections 5.3, 5.4 and 5.7).
-ghost use Rattle.std.specs.Prelude.{◌≡◌, ◌≤◌, ◌||◌, IfOk, Some, map, filter_map, option_map};
+ghost use Rattle.std.specs.Prelude.{◌≡◌, ◌≤◌, ◌||◌, IfOk, List, Option, Some, map, filter_map, option_map};
 ghost use Rattle.std.specs.List.{list_any};
+ghost use Rattle.spf_macros.specs.declared.piece.Piece.{Piece};
 ghost use Rattle.spf_model.specs.Run.{says};
 ghost use Rattle.spf_model.specs.Judging as judging;
 ghost use Rattle.spf_model.specs.Leads.{site_of, IsJudged, TargetFits};
@@ -201,5 +202,15 @@ impl Frame<'_> {
         let answer = self.ask(term, &name, QKind::A)?;
         self.count_void(term, is_void(&answer), counts)?;
         Ok(matches!(answer, Answer::Found(_)))
+    }
+
+    /// `ptr` counts a lookup, and is left open (RFC 7208, section 5.5).
+    pub(crate) fn match_ptr(&self, term: u32, counts: &mut Counts) -> Result<bool, Halt>
+        ensures judged { (sub : judging.Sub) (spec : Option (List Piece)) → IsJudged (says self.now.zones.now)
+            (judging.judge (site_of self.now) sub term (mechanism.Ptr spec) counts.old) counts.new result }
+        ensures grows { counts.old.lookups ≤ counts.new.lookups }
+    {
+        self.count_lookup(term, counts)?;
+        Err(self.open(Cause::Reverse, term))
     }
 }
