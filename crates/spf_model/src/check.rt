@@ -1,19 +1,23 @@
 //! check_host (RFC 7208, section 4): records, their terms, and the records that these ask for.
-ghost use Rattle.std.specs.Prelude.{◌≡◌, ◌+◌, ◌<◌, ◌≤◌, ℕ, Some, IfOk, MatchResult, option_map};
+ghost use Rattle.std.specs.Prelude.{◌≡◌, ◌+◌, ◌<◌, ◌≤◌, ℕ, Some, IfOk, IsOk, option_map};
 ghost use Rattle.spf_grammar.specs.Flat.{covers};
 ghost use Rattle.spf_grammar.specs.declared.flat.Net.TheVariants as net;
 ghost use Rattle.spf_model.specs.Run.{says};
 ghost use Rattle.spf_model.specs.Judging as judging;
 ghost use Rattle.spf_model.specs.Check as checking;
+ghost use Rattle.dns_name.specs.Name.{name_of_text};
+ghost use Rattle.spf_model.specs.Result.{AreModest, Gives};
 ghost use Rattle.spf_model.specs.Leads.{site_of, required_of, IsJudged, IsTried, IsVerdictOf, TargetFits, MechanismFits, TermFits, TermsFit};
 
-use crate::frame::Frame;
+use crate::frame::{Frame, name_of};
 use crate::hosts::Lens;
 use crate::outcome::Halt;
-use crate::{Cause, Counts, Outcome};
+use crate::{Cause, Counts, Limits, Outcome};
 use addr_bits::{Address, Prefix};
 use spf_grammar::{Mechanism, Term, Verdict};
 use spf_macros::MacroText;
+use std::alloc::{AllocError, Global};
+use zone_answers::Zones;
 
 /// Whether the address is of IPv4 and lies in the network (RFC 7208, section 5.6).
 fn covers4(prefix: Prefix<u32>, address: Address) -> bool
@@ -189,5 +193,39 @@ impl Frame<'_> {
             Some((term, spec)) => self.judge_target(term, spec, counts),
             None => Ok(Verdict::Neutral),
         }
+    }
+}
+
+/// The outcome of check_host (RFC 7208, section 4) for one address, over the lent zones. An address of IPv6 that maps one
+/// of IPv4 stays of IPv6. The domain must be a legal name, and each limit at most 1,000, since records are nested as deep
+/// as the limit on lookups.
+pub fn check_one(
+    alloc: Global,
+    zones: &Zones,
+    limits: Limits,
+    address: Address,
+    domain: &[u8],
+) -> Result<Outcome, AllocError>
+    requires named { IsOk (name_of_text domain.now) }
+    requires modest { AreModest limits }
+    ensures { IfOk result (Gives (says zones.now) limits domain.now address) }
+{
+    let name = name_of(domain).unwrap();
+    let frame = Frame {
+        alloc,
+        zones,
+        limits,
+        address,
+        domain,
+        name: &name,
+    };
+    let mut counts = Counts {
+        lookups: 0,
+        voids: 0,
+    };
+    match frame.judge_record(&mut counts) {
+        Ok(verdict) => Ok(Outcome::Is(verdict)),
+        Err(Halt::Ended(outcome)) => Ok(outcome),
+        Err(Halt::Memory) => Err(AllocError),
     }
 }

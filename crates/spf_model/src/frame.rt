@@ -53,7 +53,7 @@ fn family_of(address: Address) -> Family
 
 /// The name that a text writes.
 #[tactic(auto, unfolding(crate::specs::Judging::name_of))]
-fn name_of(text: &[u8]) -> Option<Name>
+pub(crate) fn name_of(text: &[u8]) -> Option<Name>
     ensures { result ≡ judging.name_of text.now }
 {
     Name::from_text(text).ok()

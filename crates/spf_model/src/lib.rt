@@ -4,7 +4,12 @@
 mod check;
 mod frame;
 mod hosts;
+mod laws;
+mod lines;
 mod outcome;
 mod record;
 
+pub use check::check_one;
+pub use laws::{one_end, rests_on_its_questions};
+pub use lines::write_outcome;
 pub use outcome::{Cause, Counts, Limits, Outcome, Place};
