@@ -1,0 +1,10 @@
+pub mod Spelling
+pub mod Labels
+pub mod Groups
+pub mod Bodies
+pub mod Types
+pub mod Asked
+pub mod Once
+pub mod Taking
+pub mod Feeding
+pub mod Examples

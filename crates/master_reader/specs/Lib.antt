@@ -4,3 +4,7 @@ pub mod Entry
 pub mod Data
 pub mod Reading
 pub mod Readers
+pub mod Refusals
+pub mod Asks
+pub mod Laws
+pub mod Progress

@@ -1,7 +1,9 @@
 -- What a reader in pieces keeps, the bytes that it stands for, and the faults that are known before the file has ended.
-use Rattle.std.specs.Prelude.{◌≡◌, ℕ, ◌⊎◌, List, [], ◌∷◌, ◌++◌, Option, filter, IsTrue, ⊤}
+use Rattle.std.specs.Prelude.{◌≡◌, ℕ, ◌⊎◌, List, ◌++◌, filter, IsTrue, ⊤}
 use Rattle.master_lex.specs.declared.entry.Entry.{Entry}
 use Rattle.master_lex.specs.declared.fault.LexKind.{LexKind}
+use Rattle.master_lex.specs.declared.fault.LexFault.{LexFault}
+use Rattle.master_lex.specs.declared.fault.LexFault.TheVariants as lex_fault
 use Rattle.master_lex.specs.Entries.{AreEntries, Spells, has_token}
 use Rattle.master_lex.specs.Broken.{IsBroken, IsDecided}
 use Rattle.master_lex.specs.Pieces as lex
@@ -51,3 +53,8 @@ pub record DecidesFault (zone : List (List ℕ)) (bytes : List ℕ) (line : ℕ)
 abbrev pub FaultIs : (ℕ → Kind → Type 0) → ZoneFault → Type 0
 FaultIs holds (Bad line kind) = holds line kind
 FaultIs holds Memory = ⊤
+
+-- a broken entry is a fault of the same line, and of the kind of the same name
+abbrev pub zone_fault_of : LexFault → ZoneFault
+zone_fault_of (lex_fault.Bad line kind) = Bad line (kind_of kind)
+zone_fault_of lex_fault.Memory = Memory

@@ -12,8 +12,12 @@ use Rattle.master_lex.specs.declared.entry.Token.{Token}
 use Rattle.master_reader.specs.declared.fault.Kind.{Kind}
 use Rattle.master_reader.specs.declared.fault.Kind.TheVariants.{BadName}
 
+-- the bytes of octets, escaped or not
+abbrev pub bytes_in : List Octet → List ℕ
+bytes_in units = map (λ (o : Octet). o.byte) units
+
 abbrev pub bytes_of : Token → List ℕ
-bytes_of token = map (λ o. o.byte) token.units
+bytes_of token = bytes_in token.units
 
 -- a plain token without escapes
 abbrev pub is_bare : Token → Bool
@@ -58,7 +62,7 @@ or_bad_name (Err fault) = Err BadName
 abbrev pub name_of_units : List (List ℕ) → List Octet → Result (List (List ℕ)) Kind
 name_of_units origin units =
     let dot = is_unescaped 46 in
-    let labels = map (λ part. map (λ (o : Octet). o.byte) part) (slice_split dot (without_final dot units)) in
+    let labels = map bytes_in (slice_split dot (without_final dot units)) in
     or_bad_name (name_of_labels (if ends_so dot units then labels else labels ++ origin))
 
 -- RFC 1035, 5.1: a plain `@` (64) without a `\` is the origin, and one dot without a `\` the root

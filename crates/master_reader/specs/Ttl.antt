@@ -43,8 +43,11 @@ is_group group = nat_lt 0 (unit_of group) && are_digits (without_final is_unit g
 abbrev pub seconds_of : List ℕ → ℕ
 seconds_of group = digits_value 10 (without_final is_unit group) * unit_of group
 
+-- project's own choice: one or more groups, whose seconds together are at most 4,294,967,295
+abbrev pub are_groups : List ℕ → Bool
+are_groups bytes =
+    nat_lt 0 (length bytes) && list_all is_group (groups_in bytes) && nat_le (sum_by seconds_of (groups_in bytes)) 4294967295
+
 -- RFC 1035, 5.1: digits alone; or groups, which are the project's own choice, as is the greatest value
 abbrev pub is_ttl : List ℕ → Bool
-is_ttl bytes =
-    (are_digits bytes && nat_le (digits_value 10 bytes) 4294967295)
-    || (nat_lt 0 (length bytes) && list_all is_group (groups_in bytes) && nat_le (sum_by seconds_of (groups_in bytes)) 4294967295)
+is_ttl bytes = (are_digits bytes && nat_le (digits_value 10 bytes) 4294967295) || are_groups bytes

@@ -1,5 +1,6 @@
 //! Why a file has no reading.
 
+use master_lex::{LexFault, LexKind};
 use std::alloc::AllocError;
 use thiserror::Error;
 
@@ -67,6 +68,22 @@ pub enum Kind {
     UnknownDirective,
 }
 
+impl From<LexKind> for Kind {
+    ghost use Rattle.std.specs.Prelude.{◌≡◌};
+    ghost use Rattle.master_reader.specs.Reading.{kind_of};
+
+    ghost from_gives = { λ broken kind. kind ≡ kind_of broken };
+
+    fn from(broken: LexKind) -> Kind {
+        match broken {
+            LexKind::OpenQuote => Kind::OpenQuote,
+            LexKind::OpenParen => Kind::OpenParen,
+            LexKind::StrayParen => Kind::StrayParen,
+            LexKind::BadEscape => Kind::BadEscape,
+        }
+    }
+}
+
 /// Why a file has no reading.
 #[derive(Clone, Copy, Debug, PartialEq, Eq, Error)]
 pub enum ZoneFault {
@@ -87,5 +104,51 @@ impl From<AllocError> for ZoneFault {
 
     fn from(_: AllocError) -> ZoneFault {
         ZoneFault::Memory
+    }
+}
+
+impl From<LexFault> for ZoneFault {
+    ghost use Rattle.std.specs.Prelude.{◌≡◌};
+    ghost use Rattle.master_reader.specs.Readers.{zone_fault_of};
+
+    ghost from_gives = { λ broken fault. fault ≡ zone_fault_of broken };
+
+    fn from(broken: LexFault) -> ZoneFault {
+        match broken {
+            LexFault::Bad { line, kind } => ZoneFault::Bad {
+                line,
+                kind: kind.into(),
+            },
+            LexFault::Memory => ZoneFault::Memory,
+        }
+    }
+}
+
+/// Why an entry has no meaning: a fault of its own, or want of memory.
+#[derive(Clone, Copy, Debug)]
+pub(crate) enum Refusal {
+    Faulty(Kind),
+    Memory,
+}
+
+impl From<AllocError> for Refusal {
+    ghost use Rattle.std.specs.Prelude.{◌≡◌};
+    ghost use Rattle.master_reader.specs.declared.fault.Refusal.TheVariants.{Memory};
+
+    ghost from_gives = { λ _ refusal. refusal ≡ Memory };
+
+    fn from(_: AllocError) -> Refusal {
+        Refusal::Memory
+    }
+}
+
+impl From<Kind> for Refusal {
+    ghost use Rattle.std.specs.Prelude.{◌≡◌};
+    ghost use Rattle.master_reader.specs.declared.fault.Refusal.TheVariants.{Faulty};
+
+    ghost from_gives = { λ kind refusal. refusal ≡ Faulty kind };
+
+    fn from(kind: Kind) -> Refusal {
+        Refusal::Faulty(kind)
     }
 }

@@ -5,6 +5,7 @@ ghost use Rattle.master_reader.specs.Reading.{Reads, Faults};
 ghost use Rattle.master_reader.specs.Readers.{StandsFor, DecidesFault, FaultIs};
 
 use crate::fault::ZoneFault;
+use crate::progress::Progress;
 use crate::record::Records;
 use dns_name::Name;
 use master_lex::Cutter;
@@ -12,24 +13,20 @@ use std::alloc::Global;
 use std::marker::Model;
 
 /// Reads the records of a master file (RFC 1035, section 5) from its pieces, however it is cut. It keeps the open entry
-/// and the records so far; the origin only where a directive stated another than the zone's.
+/// and the records so far.
 #[derive(Drop, Debug)]
 pub struct Reader {
-    alloc: Global,
-    zone: Name,
     cutter: Cutter,
-    origin: Option<Name>,
-    owner: Option<Name>,
-    records: Records,
+    progress: Progress,
 }
 
 impl Model for Reader {
-    ghost use Rattle.std.specs.Option.{unwrap_or};
     ghost use Rattle.master_reader.specs.Readers.{Kept};
+    ghost use Rattle.master_reader.specs.Progress.{kept_with};
 
     ghost Value = { Kept };
 
-    ghost view = { λ a. record { zone = a.zone; cutter = a.cutter; context = record { origin = unwrap_or a.origin a.zone; owner = a.owner }; records = a.records } };
+    ghost view = { λ a. kept_with a.cutter a.progress };
 }
 
 impl Reader {
@@ -38,12 +35,14 @@ impl Reader {
         ensures { StandsFor origin result [] }
     {
         Reader {
-            alloc,
-            zone: origin,
             cutter: Cutter::new(alloc),
-            origin: None,
-            owner: None,
-            records: Records::new(alloc),
+            progress: Progress {
+                alloc,
+                zone: origin,
+                origin: None,
+                owner: None,
+                records: Records::new(alloc),
+            },
         }
     }
 
@@ -57,7 +56,18 @@ impl Reader {
         ensures not_bad { (zone : List (List ℕ)) (bytes : List ℕ) → StandsFor zone self bytes → length (bytes ++ piece.now) < 2 ^ 64
             → OnOk result ((line : ℕ) (kind : Kind) → ¬ DecidesFault zone (bytes ++ piece.now) line kind) }
     {
-        Err(ZoneFault::Memory)
+        let Reader {
+            mut cutter,
+            mut progress,
+        } = self;
+        for byte in piece {
+            let (next, entry) = cutter.step(*byte)?;
+            cutter = next;
+            if let Some(entry) = entry {
+                progress.take(&entry)?;
+            }
+        }
+        Ok(Reader { cutter, progress })
     }
 
     /// The records of the whole, or its first fault.
@@ -67,7 +77,15 @@ impl Reader {
         ensures not_bad { (zone : List (List ℕ)) (bytes : List ℕ) → StandsFor zone self bytes
             → OnOk result ((line : ℕ) (kind : Kind) → ¬ Faults zone bytes line kind) }
     {
-        Err(ZoneFault::Memory)
+        let Reader {
+            cutter,
+            mut progress,
+        } = self;
+        if let Some(entry) = cutter.finish()? {
+            progress.take(&entry)?;
+        }
+        let Progress { records, .. } = progress;
+        Ok(records)
     }
 }
 
@@ -79,5 +97,5 @@ pub fn read_zone(alloc: Global, origin: &Name, bytes: &[u8]) -> Result<Records, 
     ensures bad { IfErr result (FaultIs (Faults origin.now bytes.now)) }
     ensures not_bad { OnOk result ((line : ℕ) (kind : Kind) → ¬ Faults origin.now bytes.now line kind) }
 {
-    Err(ZoneFault::Memory)
+    Reader::new(alloc, origin.clone()?).feed(bytes)?.finish()
 }
