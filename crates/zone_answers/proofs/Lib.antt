@@ -1,0 +1,11 @@
+pub mod Nodes
+pub mod Indexes
+pub mod Cuts
+pub mod Places
+pub mod Distinct
+pub mod Holding
+pub mod Counts
+pub mod Clashes
+pub mod Lending
+pub mod Texts
+pub mod Reading

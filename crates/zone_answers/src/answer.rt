@@ -41,3 +41,13 @@ pub enum Answer {
     /// The bodies of the records of this kind, in the order of the file.
     Found(Bodies),
 }
+
+/// What one zone says to a question.
+#[derive(Drop)]
+pub(crate) enum Step {
+    /// The answer.
+    Known(Answer),
+
+    /// The name that the question is asked anew for.
+    Alias(Name),
+}

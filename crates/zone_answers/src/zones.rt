@@ -1,59 +1,47 @@
 //! The lent zones.
-ghost use Rattle.std.specs.Prelude.{◌≡◌, [], IfOk, IfErr, OnOk, OnErr};
-ghost use Rattle.zone_answers.specs.Answers.{answer_of};
-ghost use Rattle.zone_answers.specs.Lend.{AreLendable, IsRefused, IsLent, with_zone};
+ghost use Rattle.std.specs.Prelude.{◌≡◌, ℕ, List, [], ◌∷◌, ◌++◌, find, length, sum_by, ◌≤◌, IfOk, IfErr, OnOk, OnErr};
+ghost use Rattle.std.specs.List.{list_any};
+ghost use Rattle.std.specs.Option.{option_copied};
+ghost use Rattle.dns_name.specs.Name.{is_under};
+ghost use Rattle.zone_answers.specs.declared.answer.Answer.{Answer};
+ghost use Rattle.zone_answers.specs.Same.{distinct_records, records_in, same_name};
+ghost use Rattle.zone_answers.specs.Answers.{answer_of, in_zone, zone_of};
+ghost use Rattle.zone_answers.specs.Index.{outcome_of};
+ghost use Rattle.zone_answers.specs.Lend.{AreLendable, AreZones, IsRefused, IsLent, with_zone};
+ghost use Rattle.zone_answers.specs.Names.{has_own_alias, is_taken, other_text_of};
 
-use crate::answer::{Answer, QKind};
+use crate::answer::{Answer, QKind, Step};
+use crate::fault::LendFault;
+use crate::zone::LentZone;
 use dns_name::Name;
-use master_reader::Records;
+use indexmap::IndexSet;
+use master_reader::{Record, Records};
 use std::alloc::{AllocError, Global};
 use std::marker::Model;
-use thiserror::Error;
 
-/// Why a zone is not lent.
-#[derive(Drop, Debug, Error)]
-pub enum LendFault {
-    /// A zone with this origin is lent.
-    #[error("the same origin")]
-    SameOrigin,
+/// The most records that are lent (the project's own choice).
+const MAX_RECORDS: usize = 65536;
 
-    /// The different records of all zones, this one's among them, are more than 65,536: so many.
-    #[error("{count} records")]
-    TooMany { count: u64 },
-
-    /// A CNAME record stands beside another record of a type that is read at this name, the least such by its printed form.
-    #[error("an alias beside other records")]
-    AliasAndOther { name: Name },
-
-    /// There is no memory.
-    #[error("out of memory")]
-    Memory,
-}
-
-impl From<AllocError> for LendFault {
-    ghost use Rattle.zone_answers.specs.declared.zones.LendFault.TheVariants.{Memory};
-
-    ghost from_gives = { λ _ fault. fault ≡ Memory };
-
-    fn from(_: AllocError) -> LendFault {
-        LendFault::Memory
-    }
-}
+/// The most alias steps of an answer (the project's own choice).
+const MAX_ALIASES: u8 = 8;
 
 /// The lent zones, which contracts see as a list.
 #[derive(Drop, Debug)]
 pub struct Zones {
     alloc: Global,
-    zones: Vec<(Name, Records)>,
+    zones: Vec<LentZone>,
 }
 
 impl Model for Zones {
-    ghost use Rattle.std.specs.Prelude.{List, map};
+    ghost use Rattle.std.specs.Prelude.{List};
     ghost use Rattle.zone_answers.specs.Zone.{Zone};
+    ghost use Rattle.zone_answers.specs.Lend.{AreZones};
 
     ghost Value = { List Zone };
 
-    ghost view = { λ a. map (λ z. record { origin = z.0; records = z.1 }) a.zones.items };
+    ghost view = { λ a. a.zones.items };
+
+    ghost invariant = { λ a. AreZones a.zones.items };
 }
 
 impl Zones {
@@ -76,13 +64,159 @@ impl Zones {
         ensures refused { IfErr result (IsRefused self.old origin records) }
         ensures stays { OnErr result (self.new ≡ self.old) }
     {
-        Err(LendFault::Memory)
+        if self.zone_at(&origin).is_some() {
+            return Err(LendFault::SameOrigin);
+        }
+        let records = distinct(self.alloc, records)?;
+        let count = self.count() + records.len();
+        if count > MAX_RECORDS {
+            return Err(LendFault::TooMany {
+                count: count as u64,
+            });
+        }
+        let zone = LentZone::new(self.alloc, origin, records)?;
+        if let Some(name) = zone.least_clash(self.alloc)? {
+            return Err(LendFault::AliasAndOther { name });
+        }
+        push_zone(&mut self.zones, zone)?;
+        Ok(())
+    }
+
+    /// How many different records are lent.
+    fn count(&self) -> usize
+        ensures count { result ≡ records_in self.now }
+        ensures small { result ≤ 65536 }
+    {
+        lengths(&self.zones)
+    }
+
+    /// The zone with this origin.
+    fn zone_at(&self, origin: &Name) -> Option<&LentZone>
+        ensures { option_copied result ≡ find (λ z. same_name z.origin origin.now) self.now }
+    {
+        self.zones.iter().find(|zone| zone.origin() == origin)
+    }
+
+    /// The zone with the deepest origin at or above the name (RFC 1034, section 4.3.2, step 2).
+    fn zone_of(&self, name: &Name) -> Option<&LentZone>
+        ensures { option_copied result ≡ zone_of self.now name.now }
+    {
+        if let Some(zone) = self.zone_at(name) {
+            return Some(zone);
+        }
+        match name.parent() {
+            Some(above) => self.zone_of(&above),
+            None => None,
+        }
     }
 
     /// The answer to a question (RFC 1034, section 4.3.2, and RFC 4592), after at most 8 alias steps.
     pub fn answer(&self, name: &Name, kind: QKind) -> Result<Answer, AllocError>
-        ensures { IfOk result (λ answer. answer ≡ answer_of self.now name.now kind) }
+        ensures answer { IfOk result (λ answer. answer ≡ answer_of self.now name.now kind) }
+        ensures zones { AreZones self.now }
     {
-        Err(AllocError)
+        let _zones = &self.zones;
+        let mut name = name.clone()?;
+        'steps: for _step in 0..=MAX_ALIASES {
+            match self.step(&name, kind)? {
+                Step::Known(answer) => return Ok(answer),
+                Step::Alias(target) => name = target,
+            }
+        }
+        Ok(Answer::Loop)
     }
+
+    /// The answer in the zone that holds the name, or the alias that leads on.
+    fn step(&self, name: &Name, kind: QKind) -> Result<Step, AllocError>
+        ensures { IfOk result (λ step. (follow : List (List ℕ) → Answer) → outcome_of follow step ≡ in_zone kind follow name.now (zone_of self.now name.now)) }
+    {
+        let Some(zone) = self.zone_of(name) else {
+            return Ok(Step::Known(Answer::Outside));
+        };
+        if zone.is_cut_off(name) {
+            return Ok(Step::Known(Answer::Outside));
+        }
+        let Some(node) = zone.node_of(name)? else {
+            return Ok(Step::Known(Answer::NoName));
+        };
+        if let Some(target) = zone.alias(&node) {
+            return Ok(Step::Alias(target.clone()?));
+        }
+        let bodies = zone.bodies(self.alloc, &node, kind)?;
+        if bodies.is_empty() {
+            return Ok(Step::Known(Answer::NoData));
+        }
+        Ok(Step::Known(Answer::Found(bodies)))
+    }
+
+    /// Whether a CNAME record stands at the name, in the zone that holds it.
+    pub fn own_alias(&self, name: &Name) -> bool
+        ensures { result ≡ has_own_alias self.now name.now }
+    {
+        match self.zone_of(name) {
+            Some(zone) => zone.alias(name).is_some(),
+            None => false,
+        }
+    }
+
+    /// The sum of the lengths, in octets, of the joined TXT texts at the name that are no SPF texts, in the zone that holds
+    /// it (RFC 7208, section 3.3).
+    pub fn other_text(&self, name: &Name) -> u64
+        ensures { result ≡ other_text_of self.now name.now }
+    {
+        match self.zone_of(name) {
+            Some(zone) => zone.other_text(name),
+            None => 0,
+        }
+    }
+
+    /// Whether a record of the zone that holds the name stands at or below it, or a lent origin does.
+    pub fn taken(&self, name: &Name) -> bool
+        ensures { result ≡ is_taken self.now name.now }
+    {
+        let has_record = match self.zone_of(name) {
+            Some(zone) => zone.has_record(name),
+            None => false,
+        };
+        has_record || have_origin_under(&self.zones, name)
+    }
+}
+
+/// Whether the origin of a zone is at or below the name.
+fn have_origin_under(zones: &[LentZone], name: &Name) -> bool
+    ensures { result ≡ list_any (λ z. is_under z.origin name.now) zones.now }
+{
+    zones.iter().any(|zone| zone.origin().under(name))
+}
+
+/// The sum of the numbers of records.
+fn lengths(zones: &[LentZone]) -> usize
+    requires { sum_by (λ z. length z.records) zones.now ≤ 65536 }
+    ensures { result ≡ sum_by (λ z. length z.records) zones.now }
+{
+    let mut sum = 0;
+    for zone in zones {
+        sum += zone.len();
+    }
+    sum
+}
+
+/// The records without those that come again, each at its first place (RFC 2181, section 5).
+fn distinct(alloc: Global, records: Records) -> Result<IndexSet<Record>, AllocError>
+    ensures { IfOk result (λ set. set.keys ≡ distinct_records records) }
+{
+    let mut set = IndexSet::new(alloc);
+    for added in records.into_vec() {
+        set.insert(added)?;
+    }
+    Ok(set)
+}
+
+/// Appends the zone. Where there is no memory, the zones stay as they were.
+fn push_zone(zones: &mut Vec<LentZone>, zone: LentZone) -> Result<(), AllocError>
+    ensures ok { OnOk result (zones.new.items ≡ zones.old.items ++ zone ∷ []) }
+    ensures err { OnErr result (zones.new.items ≡ zones.old.items) }
+{
+    zones.push(zone)?;
+    Ok(())
 }

@@ -1,0 +1,77 @@
+-- How the names of a zone are found. All of it is the project's own.
+use Rattle.std.specs.Prelude.{◌≡◌, ℕ, suc, ◌≤◌, Bool, true, false, ◌&&◌, List, [], ◌∷◌, length, Option, Some, None, filter_map, slice_get, option_map, if◌then◌else◌}
+use Rattle.std.specs.List.{list_any}
+use Rattle.std.specs.Map.{lookup}
+use Rattle.std.specs.Option.{unwrap_or}
+use Rattle.dns_name.specs.Name.{is_under}
+use Rattle.master_reader.specs.declared.record.Body.{Body}
+use Rattle.master_reader.specs.declared.record.Record.{Record}
+use Rattle.zone_answers.specs.declared.answer.Answer.{Answer}
+use Rattle.zone_answers.specs.declared.answer.Step.{Step}
+use Rattle.zone_answers.specs.declared.answer.Step.TheVariants.{Known, Alias}
+use Rattle.zone_answers.specs.declared.node.Node.{Node}
+use Rattle.zone_answers.specs.Zone.{Zone}
+use Rattle.zone_answers.specs.Same.{same_name, distinct_records}
+use Rattle.zone_answers.specs.Answers.{is_delegation, target_of}
+use Rattle.zone_answers.specs.Lend.{AreLendable}
+
+-- the places of the records with this owner, where the first record of the list has this place
+abbrev pub places_from : ℕ → List Record → List (List ℕ) → List ℕ
+places_from place [] name = []
+places_from place (r ∷ records) name =
+    let rest = places_from (suc place) records name in if same_name r.owner name then place ∷ rest else rest
+
+-- whether an NS record has this owner
+abbrev pub has_delegation : List Record → List (List ℕ) → Bool
+has_delegation records name = list_any (λ r. same_name r.owner name && is_delegation r.body) records
+
+-- whether a record stands at or below the name
+abbrev pub has_record : List Record → List (List ℕ) → Bool
+has_record records name = list_any (λ r. is_under r.owner name) records
+
+-- what stands at a name
+abbrev pub summary : List Record → List (List ℕ) → Node
+summary records name = record { places = places_from 0 records name; delegates = has_delegation records name }
+
+-- each name at or below which a record stands is there, with what stands at it, and no other
+pub record IsIndex (records : List Record) (nodes : List (List (List ℕ) × Node)) : Type 0 where
+  pub at : (name : List (List ℕ)) → lookup (same_name name) nodes ≡ (if has_record records name then Some (summary records name) else None)
+
+-- a name with no record
+abbrev pub empty_node : Node
+empty_node = record { places = []; delegates = false }
+
+-- a node where one is to be, and else what was there
+abbrev pub filled : Bool → Option Node → Option Node
+filled true node = Some (unwrap_or node empty_node)
+filled false node = node
+
+-- a lent zone: what its records are, and their names
+pub record IsLentZone (zone : Zone) (nodes : List (List (List ℕ) × Node)) : Type 0 where
+  pub lendable : AreLendable zone.origin zone.records
+  pub distinct : distinct_records zone.records ≡ zone.records
+  pub few : length zone.records ≤ 65536
+  pub index : IsIndex zone.records nodes
+
+-- the first item, if there is one
+abbrev pub first_of : {X : Type 0} → List X → Option X
+first_of [] = None
+first_of (x ∷ xs) = Some x
+
+-- the body of the record at the place
+abbrev pub body_at : List Record → ℕ → Option Body
+body_at records place = option_map (λ r. r.body) (slice_get records place)
+
+-- what the body is an alias for, if there is one
+abbrev pub target_in : Option Body → Option (List (List ℕ))
+target_in None = None
+target_in (Some body) = target_of body
+
+-- the bodies of the records at the places
+abbrev pub bodies_in : List Record → List ℕ → List Body
+bodies_in records places = filter_map (body_at records) places
+
+-- the answer of a step, where an alias leads on as told
+abbrev pub outcome_of : (List (List ℕ) → Answer) → Step → Answer
+outcome_of follow (Known answer) = answer
+outcome_of follow (Alias target) = follow target
