@@ -51,11 +51,7 @@ bound (Err kind) f body e h = absurd cc
 
 name_fit : (build : List (List ℕ) → Body) → ((x : List (List ℕ)) → IsBodyFit (build x)) → (origin : List (List ℕ)) (content : List Token) (body : Body) → Ok body ≡ name_body build origin content → IsBodyFit body
 name_fit build plain origin content body e =
-    bound (only_token content >>= λ token. name_in origin token) (λ name. Ok (build name)) body (e ∙ both (only_token content) (name_in origin) (λ name. Ok (build name))) (λ name h. let same : build name ≡ body = cc in subst IsBodyFit same (plain name))
-  where
-    both : {X Y : Type 0} (r : Result X Kind) (f : X → Result Y Kind) (g : Y → Result Body Kind) → (r >>= λ x. f x >>= g) ≡ ((r >>= f) >>= g)
-    both (Ok x) f g = refl
-    both (Err kind) f g = refl
+    bound (only_token content >>= λ token. name_in origin token) (λ name. Ok (build name)) body e (λ name h. let same : build name ≡ body = cc in subst IsBodyFit same (plain name))
 
 mx_fit-one : (t : Bool) (n : ℕ) (r : Result (List (List ℕ)) Kind) (body : Body) → (let whole : Result Body Kind = if t then (r >>= λ name. Ok (Mx n name)) else Err kinds.BadData in Ok body ≡ whole) → IsBodyFit body
 mx_fit-one true n r body e = bound r (λ name. Ok (Mx n name)) body e (λ name h. let same : Mx n name ≡ body = cc in subst IsBodyFit same tt)
