@@ -1,5 +1,5 @@
 -- What an entry asks for, by how it begins.
-use Rattle.std.proofs.Common.{◌≡◌, ℕ, Bool, true, false, cond, not, ◌&&◌, List, [], ◌∷◌, Option, Some, None, Result, Ok, Err, refl, sym, ap, ap₂, ◌∙◌, subst, ◌-◌, ◌<◌, ◌≤◌, length, get_or, take, drop, arith}
+use Rattle.std.proofs.Common.{◌≡◌, ℕ, true, false, cond, not, ◌&&◌, List, [], ◌∷◌, Option, Some, Result, Ok, Err, sym, ap, ap₂, ◌∙◌, subst, ◌-◌, ◌<◌, length, get_or, take, drop, arith}
 use Rattle.std.proofs.Math.Seq.{take_all}
 use Rattle.std.specs.Prelude.{MatchResult}
 use Rattle.master_lex.specs.declared.entry.Token.{Token}
@@ -7,7 +7,7 @@ use Rattle.master_lex.specs.declared.entry.Entry.{Entry}
 use Rattle.master_reader.specs.declared.fault.Kind.{Kind}
 use Rattle.master_reader.specs.declared.meaning.Ask.{Ask as Answer}
 use Rattle.master_reader.specs.Tokens.{name_in}
-use Rattle.master_reader.specs.Entry.{◌>>=◌, Context, Ask, ask_of, record_ask, last_owner_ask, stated_owner_ask, first_word_ask, first_passes, is_dollar_word, is_directive}
+use Rattle.master_reader.specs.Entry.{◌>>=◌, Context, Ask, ask_of, record_ask, last_owner_ask, stated_owner_ask, first_word_ask, first_passes, is_dollar_word}
 use Rattle.master_reader.specs.Asks.{ask_in}
 
 pub answers_along : (x y : Result Ask Kind) (r : Result Answer Kind) → x ≡ y → MatchResult r (λ ask. x ≡ Ok (ask_in ask)) (λ kind. x ≡ Err kind) → MatchResult r (λ ask. y ≡ Ok (ask_in ask)) (λ kind. y ≡ Err kind)

@@ -1,6 +1,6 @@
 -- The bodies of records.
-use Rattle.std.proofs.Common.{◌≡◌, ◌≢◌, ℕ, suc, ◌+◌, ◌-◌, ◌<◌, ◌≤◌, ◌⊎◌, Bool, true, false, cond, ◌&&◌, ◌||◌, List, [], ◌∷◌, ◌++◌, length, take, drop, map, get_or, refl, sym, ap, ap₂, ◌∙◌, arith, inl, inr, nat_lt, lt-ltb, Option, Some, None, Result, Ok, Err, subst, take-append-drop}
-use Rattle.std.specs.Prelude.{sum_by, MatchBool, IsTrue}
+use Rattle.std.proofs.Common.{◌≡◌, ℕ, suc, ◌+◌, ◌<◌, ◌⊎◌, Bool, true, false, cond, ◌||◌, List, [], ◌∷◌, ◌++◌, length, take, drop, map, get_or, refl, sym, ap, ◌∙◌, arith, inl, inr, nat_lt, lt-ltb, Some, None, Result, Err, subst, take-append-drop}
+use Rattle.std.specs.Prelude.{sum_by, MatchBool}
 use Rattle.std.specs.List.{list_any}
 use Rattle.std.proofs.Math.Seq.{drop-cons}
 use Rattle.std.proofs.lemmas.List.{map-append, length-map}

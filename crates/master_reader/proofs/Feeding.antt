@@ -1,15 +1,12 @@
 -- Bytes, pieces and the end of a file, from what a cutter answers.
-use Rattle.std.proofs.Common.{◌≡◌, ◌≢◌, ℕ, ◌+◌, ◌<◌, ◌≤◌, ◌^◌, ◌⊎◌, Bool, true, false, cond, List, [], ◌∷◌, ◌++◌, length, filter, take, drop, get_or, suc, take-append-drop, length-take-le, Option, Some, None, refl, sym, ap, ap₂, subst, ◌∙◌, append_assoc, append-nil, inl, inr, arith, length-append}
-use Rattle.std.specs.Prelude.{IsTrue, option_to_list}
+use Rattle.std.proofs.Common.{◌≡◌, ◌≢◌, ℕ, ◌+◌, ◌<◌, ◌^◌, ◌⊎◌, List, [], ◌∷◌, ◌++◌, length, filter, take, drop, get_or, suc, take-append-drop, length-take-le, refl, sym, ap, subst, ◌∙◌, append_assoc, append-nil, inl, inr, arith, length-append}
+use Rattle.std.specs.Prelude.{IsTrue}
 use Rattle.std.proofs.Math.Seq.{take-suc, drop-cons}
 use Rattle.std.proofs.lemmas.List.{append_cancel_right, nil_from_length}
-use Rattle.std.proofs.lemmas.List.Elements.{filter-append}
-use Rattle.master_lex.specs.declared.entry.Token.{Token}
 use Rattle.master_lex.specs.declared.entry.Entry.{Entry}
 use Rattle.master_lex.specs.declared.fault.LexKind.{LexKind}
 use Rattle.master_lex.specs.declared.fault.LexFault.{LexFault}
 use Rattle.master_lex.specs.declared.fault.LexFault.TheVariants as lex_fault
-use Rattle.master_lex.specs.declared.part.Part.{Part}
 use Rattle.master_lex.specs.declared.part.Part.TheVariants.{Outside}
 use Rattle.master_lex.specs.Items.{items_text, tokens_of}
 use Rattle.master_lex.specs.Entries.{AreEntries, Spells, has_token, lines_in}
@@ -24,11 +21,10 @@ use Rattle.master_reader.specs.declared.fault.ZoneFault.{ZoneFault}
 use Rattle.master_reader.specs.declared.fault.ZoneFault.TheVariants.{Bad, Memory}
 use Rattle.master_reader.specs.declared.progress.Progress.{Progress}
 use Rattle.master_reader.specs.declared.record.Record.{Record}
-use Rattle.master_reader.specs.Entry.{Context}
 use Rattle.master_reader.specs.Reading.{Mean, IsFaulty, first_context, kind_of, StartsBroken, StartsFaulty, Reads, Faults}
 use Rattle.master_reader.specs.Readers.{Kept, StandsFor, StartsDecided, ClosesFaulty, DecidesFault, FaultIs, zone_fault_of}
 use Rattle.master_reader.specs.Progress.{context_of, kept_with, Takes, FaultAt}
-use Rattle.master_reader.proofs.Once.{mean_append, not_passed, behind_from, nil_front, with_token, reads_not_faults}
+use Rattle.master_reader.proofs.Once.{mean_append, not_passed, behind_from, nil_front}
 
 -- ---- an open entry is not a closed one
 

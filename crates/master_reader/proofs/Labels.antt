@@ -1,5 +1,5 @@
 -- Names of the labels of a token.
-use Rattle.std.proofs.Common.{subst, ◌≡◌, ◌≢◌, ℕ, ◌+◌, ◌<◌, ◌≤◌, Bool, true, false, cond, Ok, Err, List, [], ◌∷◌, ◌++◌, length, map, Option, Some, None, Result, refl, sym, ap, ap₂, ◌∙◌, arith, append_assoc, length-append, nat_lt, le-ltb, ltb-true, lt-ltb, ne_eqb}
+use Rattle.std.proofs.Common.{subst, ◌≡◌, ◌≢◌, ℕ, ◌<◌, ◌≤◌, Bool, true, false, cond, Ok, Err, List, [], ◌∷◌, ◌++◌, length, map, Option, Some, None, Result, refl, sym, ap, ap₂, ◌∙◌, arith, append_assoc, length-append, nat_lt, le-ltb, ltb-true, lt-ltb, ne_eqb}
 use Rattle.std.proofs.lemmas.List.{length-map, map-append}
 use Rattle.dns_name.specs.declared.fault.NameFault.{NameFault}
 use Rattle.dns_name.specs.declared.fault.NameFault.TheVariants.{EmptyLabel, LabelLong, NameLong}
@@ -8,7 +8,6 @@ use Rattle.dns_name.specs.Name.{IsLabel, IsName, lowercase_label, label_fault, c
 use Rattle.dns_name.specs.Parts.{ends_so}
 use Rattle.dns_name.proofs.Names.{back_name, no_fault_from_label}
 use Rattle.std.specs.List.{AllByRecursion}
-use Rattle.master_reader.specs.declared.fault.Kind.{Kind}
 use Rattle.master_reader.specs.declared.fault.Kind.TheVariants.{BadName}
 use Rattle.master_reader.specs.Tokens.{or_bad_name}
 

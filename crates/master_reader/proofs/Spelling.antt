@@ -1,7 +1,7 @@
 -- Words and numbers, octet by octet.
-use Rattle.std.proofs.Common.{◌≡◌, ◌≢◌, ℕ, suc, ◌+◌, ◌-◌, ◌*◌, ◌<◌, ◌≤◌, ◌^◌, min, Bool, true, false, ◌&&◌, List, [], ◌∷◌, ◌++◌, length, take, drop, map, get_or, refl, sym, ap, ap₂, ◌∙◌, arith, bytes_eq, inl, inr, nat_lt, lt-ltb, length-take}
+use Rattle.std.proofs.Common.{◌≡◌, ◌≢◌, ℕ, suc, ◌+◌, ◌-◌, ◌*◌, ◌<◌, ◌≤◌, min, Bool, true, false, ◌&&◌, List, [], ◌∷◌, ◌++◌, length, take, get_or, sym, ap, ap₂, ◌∙◌, arith, bytes_eq, nat_lt, lt-ltb}
 use Rattle.std.proofs.Math.Seq.{take-suc, take_all}
-use Rattle.std.proofs.lemmas.List.{get_or-map, length-map, take-map, drop-map}
+use Rattle.std.proofs.lemmas.List.{get_or-map, length-map}
 use Rattle.std.proofs.lemmas.List.Folds.{list_all-map}
 use Rattle.std.proofs.lemmas.List.Sums.{AllPass-from_list_all}
 use Rattle.std.proofs.lemmas.Bool.{and_parts, leb-true, false_from_ne_true}
@@ -14,8 +14,7 @@ use Rattle.std.specs.List.{list_all}
 use Rattle.std.specs.Str.{str_to_ascii_lowercase}
 use Rattle.std.specs.Str.Parse.{digits_value}
 use Rattle.master_lex.specs.declared.entry.Octet.{Octet}
-use Rattle.master_lex.specs.declared.entry.Token.{Token}
-use Rattle.master_reader.specs.Tokens.{bytes_in, bytes_of, are_digits, is_numbered_word}
+use Rattle.master_reader.specs.Tokens.{bytes_in, are_digits}
 
 abbrev pub no_octet : Octet
 no_octet = record { byte = 0; escaped = false }

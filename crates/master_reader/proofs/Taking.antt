@@ -1,18 +1,16 @@
 -- What one entry adds.
-use Rattle.std.proofs.Common.{◌≡◌, ℕ, List, [], ◌∷◌, ◌++◌, Option, Some, None, Result, Ok, Err, refl, sym, ap, ap₂, subst, ◌∙◌, append-nil, inl, inr, Bor}
+use Rattle.std.proofs.Common.{◌≡◌, ℕ, List, [], ◌++◌, Option, Some, None, Result, Ok, Err, refl, sym, ap₂, subst, ◌∙◌, append-nil, inr, Bor}
 use Rattle.std.specs.Prelude.{unwrap_or, option_copied}
 use Rattle.master_lex.specs.declared.entry.Token.{Token}
 use Rattle.master_lex.specs.declared.entry.Entry.{Entry}
 use Rattle.master_reader.specs.declared.fault.Kind.{Kind}
 use Rattle.master_reader.specs.declared.fault.Refusal.{Refusal}
 use Rattle.master_reader.specs.declared.fault.Refusal.TheVariants.{Faulty, Memory}
-use Rattle.master_reader.specs.declared.meaning.Ask.{Ask as Answer}
 use Rattle.master_reader.specs.declared.progress.Progress.{Progress}
 use Rattle.master_reader.specs.declared.record.Body.{Body}
 use Rattle.master_reader.specs.declared.record.Record.{Record}
-use Rattle.master_reader.specs.Asks.{ask_in}
 use Rattle.master_reader.specs.Data.{IsBody}
-use Rattle.master_reader.specs.Entry.{Context, Ask, a_record, an_origin, no_record, ask_of}
+use Rattle.master_reader.specs.Entry.{Ask, a_record, an_origin, no_record, ask_of}
 use Rattle.master_reader.specs.Progress.{context_of, Takes}
 use Rattle.master_reader.specs.Reading.{IsFaulty, records_kept}
 use Rattle.master_reader.specs.Refusals.{RefusalIs}

@@ -1,5 +1,4 @@
 -- What an entry asks for, as the private functions answer it.
-use Rattle.std.specs.Prelude.{ℕ, List}
 use Rattle.master_reader.specs.declared.meaning.Ask.{Ask as Answer}
 use Rattle.master_reader.specs.declared.meaning.Ask.TheVariants.{Record, Origin, Nothing}
 use Rattle.master_reader.specs.Entry.{Ask, a_record, an_origin, no_record}

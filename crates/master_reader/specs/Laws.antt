@@ -3,7 +3,6 @@ use Rattle.std.specs.Prelude.{◌≡◌, ℕ, List}
 use Rattle.master_reader.specs.declared.fault.Kind.{Kind}
 use Rattle.master_reader.specs.declared.record.Record.{Record}
 use Rattle.master_reader.specs.Reading.{Reads, Faults}
-use Rattle.master_reader.specs.Readers.{DecidesFault}
 
 -- RFC 1035, 5.1: a file has one reading at most, or one first fault, and not both
 pub record OneAnswer : Type 0 where

@@ -1,4 +1,4 @@
-use Rattle.std.proofs.Common.{sym, ◌∙◌}
+use Rattle.std.proofs.Common.{◌∙◌}
 use Rattle.addr_bits.specs.Ip6.{SpellsIp6}
 use Rattle.master_reader.specs.declared.record.Body.TheVariants.{Aaaa}
 use Rattle.master_reader.proofs.Bodies.{no_address}

@@ -1,4 +1,4 @@
-use Rattle.std.proofs.Common.{inl, inr, ◌+◌, ap, arith, ◌<◌, ◌⊎◌, length}
+use Rattle.std.proofs.Common.{inl, inr, ◌+◌, arith, ◌<◌, ◌⊎◌, length}
 use Rattle.master_reader.proofs.Bodies.{long_here}
 use Rattle.master_reader.proofs.data.is_long_text.Goals.{then-len-gt-MAX_STRING-via-then-len-gt-MAX_STRING, then-len-gt-MAX_STRING-via-else-len-gt-MAX_STRING+then-octets-len-gt-MAX_TEXT}
 use Rattle.master_reader.proofs.data.is_long_text.Goals as goal

@@ -1,7 +1,7 @@
 use Rattle.std.proofs.Common.{◌≡◌, sym, ◌∙◌, ap, arith, Some, ◌-◌, length, take, drop}
 use Rattle.std.specs.Prelude.{option_copied}
 use Rattle.std.specs.Result.{result_ok}
-use Rattle.master_reader.specs.Entry.{record_ask, ask_of}
+use Rattle.master_reader.specs.Entry.{record_ask}
 use Rattle.master_reader.proofs.Asked.{answers_along, blank_asks, stated_asks, at_ok, split_first}
 use Rattle.master_reader.proofs.meaning.ask_of.Goals as goal
 

@@ -1,4 +1,4 @@
-use Rattle.std.proofs.Common.{◌≡◌, ◌∙◌, ◌++◌, ◌∷◌, ◌<◌, List, ℕ, length, ap, sym, map, reverse, rules, tests, arith}
+use Rattle.std.proofs.Common.{◌∙◌, ◌++◌, ◌∷◌, ◌<◌, length, ap, sym, map, reverse, rules, tests, arith}
 use Rattle.std.proofs.lemmas.List.{map-append, length-map, length-reverse}
 use Rattle.std.proofs.lemmas.List.Splits.{length-slice_split}
 use Rattle.std.specs.List.{slice_split}

@@ -1,4 +1,4 @@
-use Rattle.std.proofs.Common.{◌≡◌, ◌+◌, ◌<◌, ◌++◌, length, map, reverse}
+use Rattle.std.proofs.Common.{◌≡◌, ◌<◌, ◌++◌, length, map, reverse}
 use Rattle.dns_name.specs.Name.{IsName, lowercase_label}
 use Rattle.master_reader.specs.Tokens.{bytes_in}
 use Rattle.master_reader.proofs.names.name_in_front.Given as goal

@@ -1,11 +1,10 @@
-use Rattle.std.proofs.Common.{◌+◌, ◌-◌, ◌*◌, ◌^◌, ◌∙◌, ◌++◌, ◌∷◌, [], ap, ap₂, sym, arith, length, min, take, drop, get_or}
+use Rattle.std.proofs.Common.{◌+◌, ◌-◌, ◌*◌, ◌^◌, ◌∙◌, ◌++◌, ◌∷◌, [], ap, sym, arith, length, min, take, drop, get_or}
 use Rattle.std.proofs.lemmas.Bool.{eqb-false}
-use Rattle.std.proofs.Common.{eqb-true}
 use Rattle.std.specs.List.{list_all}
 use Rattle.master_reader.specs.Tokens.{bytes_in}
-use Rattle.master_reader.specs.Ttl.{seconds_in, groups_in, is_group}
+use Rattle.master_reader.specs.Ttl.{groups_in, is_group}
 use Rattle.master_reader.proofs.Spelling.{no_octet}
-use Rattle.master_reader.proofs.Groups.{FirstGroup, first_group_is, groups_fail, group_fails, summed_first, summed_more, summed_last}
+use Rattle.master_reader.proofs.Groups.{first_group_is, groups_fail, group_fails, summed_first, summed_more}
 use Rattle.master_reader.proofs.ttl.are_groups.Goals as goal
 
 pub loop-rest-init : goal.loop-rest-init

@@ -1,5 +1,5 @@
-use Rattle.std.proofs.Common.{◌≡◌, ◌∙◌, ap, sym, Ok}
-use Rattle.std.specs.Prelude.{unwrap_or, option_copied}
+use Rattle.std.proofs.Common.{◌∙◌, ap, Ok}
+use Rattle.std.specs.Prelude.{unwrap_or}
 use Rattle.std.proofs.lemmas.Result.{err_from_is_err_and}
 use Rattle.master_reader.specs.Asks.{ask_in}
 use Rattle.master_reader.proofs.Taking.{copied_or, asks_there, record_taken, origin_taken, nothing_taken, body_refused}

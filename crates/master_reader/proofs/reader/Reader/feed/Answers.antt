@@ -1,4 +1,4 @@
-use Rattle.std.proofs.Common.{ℕ, ◌<◌, ◌^◌, ◌+◌, ◌++◌, ◌∷◌, [], List, Option, Some, None, length, take, drop, get_or, suc, subst, sym, ap, ◌∙◌}
+use Rattle.std.proofs.Common.{ℕ, ◌++◌, ◌∷◌, [], List, Option, take, drop, get_or, suc, subst, sym}
 use Rattle.std.specs.Prelude.{option_to_list, IfSome}
 use Rattle.std.proofs.lemmas.Result.{err_from_is_err_and}
 use Rattle.std.proofs.Math.Seq.{take_all}

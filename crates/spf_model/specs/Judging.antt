@@ -1,0 +1,251 @@
+-- What a term of a record comes to.
+use Rattle.std.specs.Prelude.{◌≡◌, ℕ, ◌+◌, Bool, true, false, nat_le, List, [], ◌∷◌, ◌||◌, length, map, filter_map, Option, Some, None, Result, Ok, Err}
+use Rattle.std.specs.List.{list_any}
+use Rattle.addr_bits.specs.Prefix.{cidr_of}
+pub use Rattle.addr_bits.specs.Address.{family_of}
+use Rattle.addr_bits.specs.declared.address.Address.{Address}
+use Rattle.addr_bits.specs.declared.address.Address.TheVariants as address
+use Rattle.dns_name.specs.declared.fault.NameFault.{NameFault}
+use Rattle.dns_name.specs.Name.{name_of_text}
+use Rattle.master_reader.specs.declared.record.Body.{Body}
+use Rattle.master_reader.specs.declared.record.Body.TheVariants as body
+use Rattle.zone_answers.specs.declared.answer.QKind.{QKind}
+use Rattle.zone_answers.specs.declared.answer.QKind.TheVariants as kind
+use Rattle.zone_answers.specs.declared.answer.Question.{Question}
+use Rattle.zone_answers.specs.declared.answer.Answer.{Answer}
+use Rattle.zone_answers.specs.declared.answer.Answer.TheVariants as answer
+use Rattle.spf_macros.specs.declared.piece.Piece.{Piece}
+use Rattle.spf_macros.specs.declared.expansion.Need.{Need}
+use Rattle.spf_macros.specs.declared.expansion.Need.TheVariants as need
+use Rattle.spf_macros.specs.declared.expansion.Expanded.{Expanded}
+use Rattle.spf_macros.specs.declared.expansion.Expanded.TheVariants.{Out, Needs}
+use Rattle.spf_macros.specs.Expansion.{target}
+use Rattle.spf_grammar.specs.Flat.{agrees, covers}
+use Rattle.spf_grammar.specs.declared.flat.Net.TheVariants as net
+use Rattle.spf_grammar.specs.declared.verdict.Verdict.{Verdict}
+use Rattle.spf_grammar.specs.declared.verdict.Verdict.TheVariants.{Pass, Fail, SoftFail, Neutral}
+use Rattle.spf_grammar.specs.declared.policy.Mechanism.{Mechanism}
+use Rattle.spf_grammar.specs.declared.policy.Mechanism.TheVariants.{All, Include, A, Mx, Ptr, Ip4, Ip6, Exists}
+use Rattle.spf_model.specs.declared.outcome.Limits.{Limits}
+use Rattle.spf_model.specs.declared.outcome.Counts.{Counts}
+use Rattle.spf_model.specs.declared.outcome.Cause.{Cause}
+use Rattle.spf_model.specs.declared.outcome.Cause.TheVariants as cause
+use Rattle.spf_model.specs.declared.outcome.Place.{Place}
+use Rattle.spf_model.specs.declared.outcome.Outcome.{Outcome}
+use Rattle.spf_model.specs.declared.outcome.Outcome.TheVariants.{Nothing, Is, Perm, Temp, Unsettled}
+use Rattle.spf_model.specs.Run.{Run, Ends, Asks, then_do}
+
+-- the labels of a name
+abbrev pub Labels : Type 0
+Labels = List (List ℕ)
+
+-- what a term of a record is judged by: the limits, the address, and the domain's text and name
+pub record Site : Type 0 where
+  pub limits : Limits
+  pub address : Address
+  pub domain : List ℕ
+  pub name : Labels
+
+abbrev pub at : Site → ℕ → Place
+at site term = record { name = site.name; term = term }
+
+-- check_host at a domain's text and name, with the counts so far
+abbrev pub Sub : Type 0
+Sub = List ℕ → Labels → Counts → Run
+
+-- what a mechanism comes to at a term: it goes on with whether it matches and with the counts after it, or ends
+abbrev pub Judge : Type 0
+Judge = ℕ → Mechanism → Counts → (Bool → Counts → Run) → Run
+
+-- goes on where the test holds, and else ends
+abbrev pub go_if : Bool → Outcome → Counts → (Counts → Run) → Run
+go_if true outcome counts go = go counts
+go_if false outcome counts go = Ends outcome counts
+
+-- RFC 7208, section 4.6.4: a term that asks the DNS counts one lookup, which must be within the limit
+abbrev pub counted : Site → ℕ → Counts → (Counts → Run) → Run
+counted site t counts go = let more = record counts { lookups = counts.lookups + 1 } in
+    go_if (nat_le more.lookups site.limits.lookups) (Perm cause.Lookups (at site t)) more go
+
+-- RFC 7208, section 4.6.4: a term of which some answer was void counts one void lookup, which must be within the limit; that it
+-- counts one at most, and before its match is judged, is the project's own choice
+abbrev pub void_counted : Site → ℕ → Bool → Counts → (Counts → Run) → Run
+void_counted site t false counts go = go counts
+void_counted site t true counts go = let more = record counts { voids = counts.voids + 1 } in
+    go_if (nat_le more.voids site.limits.voids) (Perm cause.Voids (at site t)) more go
+
+-- project's own choice: what an expansion needs is left open
+abbrev pub cause_of : Need → Cause
+cause_of need.Sender = cause.Sender
+cause_of need.Helo = cause.Helo
+cause_of need.Reverse = cause.Reverse
+cause_of need.Address = cause.Address
+
+-- RFC 7208, sections 4.8 and 7.3: the target text of a term, the expansion of its domain-spec
+abbrev pub with_text : Site → ℕ → Counts → Expanded → (List ℕ → Run) → Run
+with_text site t counts (Out text) go = go text
+with_text site t counts (Needs n) go = Ends (Unsettled (cause_of n) (at site t)) counts
+
+-- RFC 7208, section 4.8: the same where a term may have no domain-spec, and its target is the domain
+abbrev pub with_target : Site → ℕ → Counts → Option (List Piece) → (List ℕ → Run) → Run
+with_target site t counts None go = go site.domain
+with_target site t counts (Some spec) go = with_text site t counts (target (family_of site.address) site.domain spec) go
+
+-- a legal name, or none
+abbrev pub legal : Result Labels NameFault → Option Labels
+legal (Ok name) = Some name
+legal (Err fault) = None
+
+-- RFC 1034, section 3.1: the name that a text writes, if it writes one
+unfoldable pub name_of : List ℕ → Option Labels
+name_of text = legal (name_of_text text)
+
+-- goes on with a name, and ends where the text is none
+abbrev pub with_name : Outcome → Counts → Option Labels → (Labels → Run) → Run
+with_name outcome counts None go = Ends outcome counts
+with_name outcome counts (Some name) go = go name
+
+-- RFC 7208, section 4.8: a term that asks for hosts counts a lookup, and goes on with its target as a name. That one which is no name
+-- is left open is the project's own choice
+abbrev pub with_host : Site → ℕ → Option (List Piece) → Counts → (Labels → Counts → Run) → Run
+with_host site t spec counts go =
+    counted site t counts (λ counts.
+    with_target site t counts spec (λ text.
+    with_name (Unsettled cause.Target (at site t)) counts (name_of text) (λ name. go name counts)))
+
+-- RFC 7208, sections 5.2 and 6.1: a term that asks for a record counts a lookup, and goes on with its target as a text and a name; one
+-- which is no name is an error
+abbrev pub with_domain : Site → ℕ → List Piece → Counts → (List ℕ → Labels → Counts → Run) → Run
+with_domain site t spec counts go =
+    counted site t counts (λ counts.
+    with_target site t counts (Some spec) (λ text.
+    with_name (Perm cause.Missing (at site t)) counts (name_of text) (λ name. go text name counts)))
+
+-- project's own choice: an answer to a term's question that leads out of the zones leaves the run open, and one that goes round
+-- is an error (after RFC 7208, sections 2.6.6 and 5)
+abbrev pub answered : Site → ℕ → Counts → (Answer → Run) → Answer → Run
+answered site t counts go answer.Outside = Ends (Unsettled cause.Outside (at site t)) counts
+answered site t counts go answer.Loop = Ends (Temp cause.Alias (at site t)) counts
+answered site t counts go answer.NoName = go answer.NoName
+answered site t counts go answer.NoData = go answer.NoData
+answered site t counts go (answer.Found bodies) = go (answer.Found bodies)
+
+-- asks a question for a term
+abbrev pub ask : Site → ℕ → Counts → Question → (Answer → Run) → Run
+ask site t counts question go = Asks question (answered site t counts go)
+
+-- asks in order, and goes on with all answers
+abbrev pub ask_all : Site → ℕ → Counts → List Question → (List Answer → Run) → Run
+ask_all site t counts [] go = go []
+ask_all site t counts (question ∷ questions) go =
+    ask site t counts question (λ found. ask_all site t counts questions (λ rest. go (found ∷ rest)))
+
+-- RFC 7208, section 4.6.4: a void answer, no such name or no such record
+abbrev pub is_void : Answer → Bool
+is_void answer.Outside = false
+is_void answer.NoName = true
+is_void answer.NoData = true
+is_void answer.Loop = false
+is_void (answer.Found bodies) = false
+
+abbrev pub bodies_of : Answer → List Body
+bodies_of answer.Outside = []
+bodies_of answer.NoName = []
+bodies_of answer.NoData = []
+bodies_of answer.Loop = []
+bodies_of (answer.Found bodies) = bodies
+
+abbrev pub is_found : Answer → Bool
+is_found answer.Outside = false
+is_found answer.NoName = false
+is_found answer.NoData = false
+is_found answer.Loop = false
+is_found (answer.Found bodies) = true
+
+-- RFC 7208, section 5: the addresses of a name are asked for in the family of the address
+abbrev pub address_kind : Address → QKind
+address_kind (address.V4 a) = kind.A
+address_kind (address.V6 a) = kind.Aaaa
+
+abbrev pub address_question : Address → Labels → Question
+address_question a name = record { name = name; kind = address_kind a }
+
+-- RFC 7208, sections 5.3 and 5.6: the address agrees with the record's in the first bits
+abbrev pub body_agrees : ℕ → ℕ → Address → Body → Bool
+body_agrees len4 len6 (address.V4 a) (body.A n) = agrees 32 (cidr_of 32 len4 n) a
+body_agrees len4 len6 (address.V6 a) (body.Aaaa n) = agrees 128 (cidr_of 128 len6 n) a
+body_agrees len4 len6 (address.V4 a) (body.Aaaa n) = false
+body_agrees len4 len6 (address.V6 a) (body.A n) = false
+body_agrees len4 len6 a (body.Mx preference name) = false
+body_agrees len4 len6 a (body.Txt strings) = false
+body_agrees len4 len6 a (body.Cname name) = false
+body_agrees len4 len6 a (body.Ns name) = false
+body_agrees len4 len6 a body.Other = false
+
+abbrev pub some_agrees : ℕ → ℕ → Address → List Answer → Bool
+some_agrees len4 len6 a answers = list_any (λ found. list_any (body_agrees len4 len6 a) (bodies_of found)) answers
+
+-- RFC 7208, sections 5.3 and 5.4: asks for the addresses of these hosts, counts a void, and goes on with whether one agrees. That
+-- the term had a void answer before counts for its void
+abbrev pub match_hosts : Site → ℕ → Counts → ℕ → ℕ → Bool → List Labels → (Bool → Counts → Run) → Run
+match_hosts site t counts len4 len6 before hosts go =
+    ask_all site t counts (map (address_question site.address) hosts) (λ answers.
+    void_counted site t (before || list_any is_void answers) counts
+    (λ counted. go (some_agrees len4 len6 site.address answers) counted))
+
+-- RFC 7505, section 3: the exchange of an MX record that is not the root; that the root is skipped is the project's own choice
+abbrev pub exchange_of : Body → Option Labels
+exchange_of (body.Mx preference []) = None
+exchange_of (body.Mx preference (label ∷ labels)) = Some (label ∷ labels)
+exchange_of (body.A n) = None
+exchange_of (body.Aaaa n) = None
+exchange_of (body.Txt strings) = None
+exchange_of (body.Cname name) = None
+exchange_of (body.Ns name) = None
+exchange_of body.Other = None
+
+-- RFC 7208, section 4.6.4: the hosts of an MX answer, of which there may not be more than the limit
+abbrev pub match_exchanges : Site → ℕ → Counts → ℕ → ℕ → Answer → (Bool → Counts → Run) → Run
+match_exchanges site t counts len4 len6 found go =
+    let exchanges = filter_map exchange_of (bodies_of found) in
+    go_if (nat_le (length exchanges) site.limits.exchanges) (Perm cause.Exchanges (at site t)) counts
+    (λ counts. match_hosts site t counts len4 len6 (is_void found) exchanges go)
+
+-- RFC 7208, sections 5.2 and 6.1: what a term makes of the outcome of the record that it asks for. It goes on with a verdict; that there
+-- is no record is an error; everything else ends it
+abbrev pub judged_by : Site → ℕ → (Verdict → Counts → Run) → Outcome → Counts → Run
+judged_by site t go (Is verdict) counts = go verdict counts
+judged_by site t go (Nothing place) counts = Ends (Perm cause.Missing (at site t)) counts
+judged_by site t go (Perm cause place) counts = Ends (Perm cause place) counts
+judged_by site t go (Temp cause place) counts = Ends (Temp cause place) counts
+judged_by site t go (Unsettled cause place) counts = Ends (Unsettled cause place) counts
+
+-- RFC 7208, sections 5.2 and 6.1: the verdict of the record that a term asks for; the counts go on
+abbrev pub with_verdict : Site → Sub → ℕ → List Piece → Counts → (Verdict → Counts → Run) → Run
+with_verdict site sub t spec counts go =
+    with_domain site t spec counts (λ text name counts. then_do (sub text name counts) (judged_by site t go))
+
+-- RFC 7208, section 5.2: an include matches where its record passes the address
+abbrev pub is_pass : Verdict → Bool
+is_pass Pass = true
+is_pass Fail = false
+is_pass SoftFail = false
+is_pass Neutral = false
+
+-- RFC 7208, section 5: whether a mechanism matches, and the counts after it
+abbrev pub judge : Site → Sub → Judge
+judge site sub t All counts go = go true counts
+judge site sub t (Ip4 p) counts go = go (covers (net.V4 p) site.address) counts
+judge site sub t (Ip6 p) counts go = go (covers (net.V6 p) site.address) counts
+judge site sub t (Ptr spec) counts go = counted site t counts (λ counts. Ends (Unsettled cause.Reverse (at site t)) counts)
+judge site sub t (Include spec) counts go =
+    with_verdict site sub t spec counts (λ verdict. go (is_pass verdict))
+judge site sub t (A spec len4 len6) counts go =
+    with_host site t spec counts (λ name counts. match_hosts site t counts len4 len6 false (name ∷ []) go)
+judge site sub t (Mx spec len4 len6) counts go =
+    with_host site t spec counts (λ name counts.
+    ask site t counts (record { name = name; kind = kind.Mx }) (λ found. match_exchanges site t counts len4 len6 found go))
+judge site sub t (Exists spec) counts go =
+    with_host site t (Some spec) counts (λ name counts.
+    ask site t counts (record { name = name; kind = kind.A }) (λ found.
+    void_counted site t (is_void found) counts (λ counts. go (is_found found) counts)))

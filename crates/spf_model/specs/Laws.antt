@@ -1,0 +1,32 @@
+-- The laws of check_host, as statements.
+use Rattle.std.specs.Prelude.{◌≡◌, ℕ, ◌+◌, ◌<◌, ◌≤◌, ◌↔◌, suc, List}
+use Rattle.addr_bits.specs.declared.address.Address.{Address}
+use Rattle.spf_model.specs.Judging.{Labels}
+use Rattle.zone_answers.specs.declared.answer.Question.{Question}
+use Rattle.spf_model.specs.declared.outcome.Limits.{Limits}
+use Rattle.spf_model.specs.declared.outcome.Counts.{Counts}
+use Rattle.spf_model.specs.declared.outcome.Outcome.{Outcome}
+use Rattle.spf_model.specs.Run.{Run, Answering, EndsWith, AsksFor}
+use Rattle.spf_model.specs.Check.{check}
+
+-- zones that answer each question of a run alike
+abbrev pub SameAnswers : Answering → Answering → Run → Type 0
+SameAnswers zones others run = (question : Question) → AsksFor zones run question → others question ≡ zones question
+
+-- a run depends on the answers to its own questions alone, and so do its questions
+pub record RestsOnItsQuestions : Type 0 where
+  pub ends : (zones others : Answering) (run : Run) (outcome : Outcome) (counts : Counts)
+      → SameAnswers zones others run → EndsWith zones run outcome counts → EndsWith others run outcome counts
+  pub asks : (zones others : Answering) (run : Run) (question : Question)
+      → SameAnswers zones others run → AsksFor zones run question → AsksFor others run question
+
+-- a run ends in one way
+abbrev pub OneEnd : Type 0
+OneEnd = (zones : Answering) (run : Run) (o p : Outcome) (c d : Counts) → EndsWith zones run o c → EndsWith zones run p d → (o ≡ p) × (c ≡ d)
+
+-- the measure of the recursion: where the depth is more than the lookups that are left, more depth changes nothing
+abbrev pub DepthSuffices : Type 0
+DepthSuffices = (zones : Answering) (limits : Limits) (a : Address) (depth : ℕ) (domain : List ℕ) (name : Labels) (counts : Counts)
+    (outcome : Outcome) (after : Counts) → counts.lookups ≤ limits.lookups → limits.lookups < depth + counts.lookups
+    → EndsWith zones (check limits a depth domain name counts) outcome after
+    ↔ EndsWith zones (check limits a (suc depth) domain name counts) outcome after

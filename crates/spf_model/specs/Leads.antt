@@ -1,0 +1,112 @@
+-- What the parts of an evaluation say of the run that they are a part of. A part is what comes after it, led to a run.
+use Rattle.std.specs.Prelude.{◌≡◌, ℕ, ◌≤◌, IsTrue, List, [], ◌∷◌, Option, Some, None, Result, Ok, Err, MatchResult, MatchOption}
+use Rattle.std.specs.List.{list_all}
+use Rattle.spf_macros.specs.declared.piece.Piece.{Piece}
+use Rattle.spf_macros.specs.Grammar.{is_for_all}
+use Rattle.spf_grammar.specs.declared.verdict.Verdict.{Verdict}
+use Rattle.spf_grammar.specs.declared.policy.Mechanism.{Mechanism}
+use Rattle.spf_grammar.specs.declared.policy.Mechanism.TheVariants.{All, Include, A, Mx, Ptr, Ip4, Ip6, Exists}
+use Rattle.spf_grammar.specs.declared.policy.Term.{Term}
+use Rattle.spf_grammar.specs.declared.policy.Term.TheVariants.{Directive, Redirect, Exp, Unknown}
+use Rattle.spf_model.specs.declared.frame.Frame.{Frame}
+use Rattle.spf_model.specs.declared.outcome.Cause.TheVariants as cause
+use Rattle.spf_model.specs.declared.outcome.Counts.{Counts}
+use Rattle.spf_model.specs.declared.outcome.Halt.{Halt}
+use Rattle.spf_model.specs.declared.outcome.Halt.TheVariants.{Ended, Memory}
+use Rattle.spf_model.specs.declared.outcome.Outcome.{Outcome}
+use Rattle.spf_model.specs.declared.outcome.Outcome.TheVariants.{Nothing, Is, Perm, Temp, Unsettled}
+use Rattle.spf_model.specs.Run.{Run, Answering, EndsWith}
+use Rattle.spf_model.specs.Judging.{Site, at}
+
+-- what a frame judges by
+abbrev pub site_of : Frame → Site
+site_of frame = record { limits = frame.limits; address = frame.address; domain = frame.domain.now; name = frame.name.now }
+
+-- the run ends as the other does
+abbrev pub LeadsTo : Answering → Run → Run → Type 0
+LeadsTo zones run rest = (outcome : Outcome) (after : Counts) → EndsWith zones rest outcome after → EndsWith zones run outcome after
+
+-- the run ends with this outcome
+abbrev pub EndsSo : Answering → Run → Outcome → Type 0
+EndsSo zones run outcome = (after : Counts) × EndsWith zones run outcome after
+
+-- the part hands this on
+abbrev pub HandsOn : {A : Type 0} → Answering → ((A → Run) → Run) → A → Type 0
+HandsOn {A} zones part x = (go : A → Run) → LeadsTo zones (part go) (go x)
+
+-- the outcome is no verdict, so no run goes on after it
+abbrev pub NoVerdict : Outcome → Type 0
+NoVerdict (Is verdict) = ⊥
+NoVerdict (Nothing place) = Unit {0}
+NoVerdict (Perm cause place) = Unit {0}
+NoVerdict (Temp cause place) = Unit {0}
+NoVerdict (Unsettled cause place) = Unit {0}
+
+-- the part ends the run, whatever comes after; without memory nothing is said
+abbrev pub Halts : {G : Type 0} → Answering → (G → Run) → Halt → Type 0
+Halts {G} zones part (Ended outcome) = NoVerdict outcome × ((go : G) → EndsSo zones (part go) outcome)
+Halts {G} zones part Memory = Unit {0}
+
+-- a part that hands its result on
+abbrev pub IsSettled : {A : Type 0} → Answering → ((A → Run) → Run) → Result A Halt → Type 0
+IsSettled zones part result = MatchResult result (HandsOn zones part) (Halts zones part)
+
+-- a part that hands the counts on
+abbrev pub Leads : {T : Type 0} → Answering → ((Counts → Run) → Run) → Counts → Result T Halt → Type 0
+Leads zones part counts result = MatchResult result (λ _. HandsOn zones part counts) (Halts zones part)
+
+-- a part that hands its result and the counts on
+abbrev pub IsJudged : {A : Type 0} → Answering → ((A → Counts → Run) → Run) → Counts → Result A Halt → Type 0
+IsJudged {A} zones part counts result =
+    MatchResult result (λ x. (go : A → Counts → Run) → LeadsTo zones (part go) (go x counts)) (Halts zones part)
+
+-- a run that ends with a verdict and these counts, or otherwise
+abbrev pub IsVerdictOf : Answering → Run → Counts → Result Verdict Halt → Type 0
+IsVerdictOf zones run counts result = MatchResult result (λ verdict. EndsWith zones run (Is verdict) counts) (Halts zones (λ (u : Unit {0}). run))
+
+-- that a term's record does not exist is an error of the term
+abbrev pub required_halt : Site → ℕ → Halt → Halt
+required_halt site t (Ended (Nothing place)) = Ended (Perm cause.Missing (at site t))
+required_halt site t (Ended (Is verdict)) = Ended (Is verdict)
+required_halt site t (Ended (Perm cause place)) = Ended (Perm cause place)
+required_halt site t (Ended (Temp cause place)) = Ended (Temp cause place)
+required_halt site t (Ended (Unsettled cause place)) = Ended (Unsettled cause place)
+required_halt site t Memory = Memory
+
+abbrev pub required_of : Site → ℕ → Result Verdict Halt → Result Verdict Halt
+required_of site t (Ok verdict) = Ok verdict
+required_of site t (Err halt) = Err (required_halt site t halt)
+
+-- a part that ends with the verdict of a directive, or hands the counts on
+abbrev pub IsTried : Answering → ((Counts → Run) → Run) → Counts → Result (Option Verdict) Halt → Type 0
+IsTried zones part counts result =
+    MatchResult result (λ found. MatchOption found (HandsOn zones part counts) (λ verdict. (go : Counts → Run) → EndsWith zones (part go) (Is verdict) counts))
+    (Halts zones part)
+
+-- ---- terms that can be judged
+
+-- RFC 7208, section 7.2: the macro text has no letter of explanations alone
+abbrev pub TargetFits : Option (List Piece) → Type 0
+TargetFits None = Unit {0}
+TargetFits (Some spec) = IsTrue (list_all is_for_all spec)
+
+-- RFC 7208, section 12: what the grammar lets a mechanism have
+abbrev pub MechanismFits : Mechanism → Type 0
+MechanismFits All = Unit {0}
+MechanismFits (Include spec) = TargetFits (Some spec)
+MechanismFits (A spec len4 len6) = TargetFits spec × (len4 ≤ 32) × (len6 ≤ 128)
+MechanismFits (Mx spec len4 len6) = TargetFits spec × (len4 ≤ 32) × (len6 ≤ 128)
+MechanismFits (Ptr spec) = Unit {0}
+MechanismFits (Ip4 p) = Unit {0}
+MechanismFits (Ip6 p) = Unit {0}
+MechanismFits (Exists spec) = TargetFits (Some spec)
+
+abbrev pub TermFits : Term → Type 0
+TermFits (Directive verdict mechanism) = MechanismFits mechanism
+TermFits (Redirect spec) = TargetFits (Some spec)
+TermFits (Exp spec) = Unit {0}
+TermFits (Unknown name value) = Unit {0}
+
+abbrev pub TermsFit : List Term → Type 0
+TermsFit [] = Unit {0}
+TermsFit (term ∷ terms) = TermFits term × TermsFit terms

@@ -1,0 +1,7 @@
+pub mod Run
+pub mod Judging
+pub mod Check
+pub mod Result
+pub mod Leads
+pub mod Laws
+pub mod Lines

@@ -1,0 +1,12 @@
+//! What holds of every evaluation. The functions do nothing: what they promise is the law.
+ghost use Rattle.spf_model.specs.Laws.{OneEnd, RestsOnItsQuestions};
+
+/// An evaluation ends in one way.
+pub fn one_end()
+    ensures { OneEnd }
+{}
+
+/// An evaluation rests on the answers to its own questions alone, and so do its questions.
+pub fn rests_on_its_questions()
+    ensures { RestsOnItsQuestions }
+{}

@@ -1,0 +1,15 @@
+//! check_host of RFC 7208 for one address, over lent zones.
+#![tactic(auto)]
+
+mod check;
+mod frame;
+mod hosts;
+mod laws;
+mod lines;
+mod outcome;
+mod record;
+
+pub use check::check_one;
+pub use laws::{one_end, rests_on_its_questions};
+pub use lines::write_outcome;
+pub use outcome::{Cause, Counts, Limits, Outcome, Place};
