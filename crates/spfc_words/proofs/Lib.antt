@@ -1,2 +1,5 @@
+pub mod Checks
+pub mod Families
 pub mod OneJob
+pub mod Settings
 pub mod Zones

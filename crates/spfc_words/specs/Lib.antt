@@ -1,2 +1,3 @@
 -- specs/Lib.antt
+pub mod Options
 pub mod Words

@@ -1,13 +1,17 @@
 -- Which words spell which job. The form of the words is the project's own choice.
-use Rattle.std.specs.Prelude.{◌≡◌, ◌≢◌, ℕ, ◌+◌, ◌<◌, ◌≤◌, ◌==◌, Bool, IsTrue, ◌||◌, List, ◌∷◌, length, map, Ok, nat_le, codes, String, string_bytes, bytes_eq, AllPairs}
+use Rattle.std.specs.Prelude.{◌≡◌, ◌≢◌, ℕ, ◌+◌, ◌<◌, ◌≤◌, ◌==◌, Bool, IsTrue, ◌||◌, List, [], ◌∷◌, length, map, Ok, nat_le, codes, String, string_bytes, bytes_eq, AllPairs}
 use Rattle.std.specs.List.{AllZip, list_all, slice_split, before_first, after_first}
 use Rattle.std.specs.Str.{str_to_ascii_lowercase}
 use Rattle.std.specs.declared.alloc.Global.{Global}
 use Rattle.dns_name.specs.Name.{name_of_text, is_dot}
 use Rattle.dns_name.specs.Parts.{without_final}
 use Rattle.spf_macros.specs.Words.{is_domain, is_domain_label}
+use Rattle.addr_bits.specs.Address.{SpellsAddress}
+use Rattle.addr_bits.specs.declared.address.Address.{Address}
+use Rattle.spf_model.specs.declared.outcome.Limits.{Limits}
+use Rattle.spfc_words.specs.Options.{settings_in, words_behind, is_reading_option, AreLimits}
 use Rattle.spfc_words.specs.declared.job.Job.{Job}
-use Rattle.spfc_words.specs.declared.job.Job.TheVariants.{Compile}
+use Rattle.spfc_words.specs.declared.job.Job.TheVariants.{Compile, Check}
 use Rattle.spfc_words.specs.declared.zone_word.ZoneWord.{ZoneWord}
 
 -- the words as bytes
@@ -58,10 +62,28 @@ pub record IsCompiled (word : List ℕ) (words : List (List ℕ)) (domain : List
   pub lower : domain ≡ str_to_ascii_lowercase word
   pub behind : AreZoneWords words zones
 
+-- `DOMAIN ADDRESS READING ORIGIN=FILE..`: a domain, an address, options of the reading limits, and zone words
+pub record IsChecked (word address_word : List ℕ) (words : List (List ℕ)) (domain : List ℕ) (address : Address) (limits : Limits) (zones : List ZoneWord) : Type 0 where
+  pub form : IsTrue (is_domain word)
+  pub lower : domain ≡ str_to_ascii_lowercase word
+  pub spelled : SpellsAddress address_word address
+  pub reading : AreLimits (settings_in is_reading_option words) limits
+  pub behind : AreZoneWords (words_behind is_reading_option words) zones
+
+abbrev pub SpellsCompile : List (List ℕ) → (domain : List ℕ) → (zones : List ZoneWord) → Type 0
+SpellsCompile [] domain zones = ⊥
+SpellsCompile (word ∷ words) domain zones = IsCompiled word words domain zones
+
+abbrev pub SpellsCheck : List (List ℕ) → (domain : List ℕ) → Address → Limits → (zones : List ZoneWord) → Type 0
+SpellsCheck [] domain address limits zones = ⊥
+SpellsCheck (word ∷ []) domain address limits zones = ⊥
+SpellsCheck (word ∷ address_word ∷ words) domain address limits zones = IsChecked word address_word words domain address limits zones
+
 -- the words spell the job
 abbrev pub Spells : List (List ℕ) → Job → Type 0
-Spells (command ∷ word ∷ words) (Compile domain zones) = (command ≡ codes "compile") × IsCompiled word words domain zones
-Spells words job = ⊥
+Spells [] job = ⊥
+Spells (command ∷ words) (Compile domain zones) = (command ≡ codes "compile") × SpellsCompile words domain zones
+Spells (command ∷ words) (Check domain address limits zones) = (command ≡ codes "check") × SpellsCheck words domain address limits zones
 
 -- words spell at most one job
 abbrev pub OneJob : Type 0

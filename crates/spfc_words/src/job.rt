@@ -1,7 +1,8 @@
 //! What the program can be asked to do.
 
 use crate::ZoneWords;
-use addr_bits::Bytes;
+use addr_bits::{Address, Bytes};
+use spf_model::Limits;
 
 /// What the program is asked to do.
 #[derive(Debug, Drop)]
@@ -10,6 +11,17 @@ pub enum Job {
     Compile {
         /// The domain, in lower case and without a final dot.
         domain: Bytes,
+        /// The zones to read.
+        zones: ZoneWords,
+    },
+    /// Say what check_host gives one address.
+    Check {
+        /// The domain, in lower case and without a final dot.
+        domain: Bytes,
+        /// The address.
+        address: Address,
+        /// The limits under which the zones are read.
+        limits: Limits,
         /// The zones to read.
         zones: ZoneWords,
     },

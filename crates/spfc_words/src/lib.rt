@@ -3,6 +3,7 @@
 
 mod job;
 mod laws;
+mod options;
 mod read;
 mod zone_word;
 

@@ -5,8 +5,9 @@ ghost use Rattle.spfc_words.specs.declared.job.Job.{Job};
 ghost use Rattle.spfc_words.specs.Words.{texts, Spells};
 
 use crate::Job;
+use crate::options::{behind_options, read_limits};
 use crate::zone_word::read_zones;
-use addr_bits::Bytes;
+use addr_bits::{Bytes, read_address};
 use spf_macros::is_domain;
 use std::alloc::{AllocError, Global};
 
@@ -21,21 +22,26 @@ pub fn read_words(alloc: Global, words: &[String]) -> Result<Option<Job>, AllocE
     ensures spelled { IfOk result (λ job. IfSome job (Spells (texts words.now))) }
     ensures none { IfOk result (λ job. IfNone job ((any : Job) → ¬ Spells (texts words.now) any)) }
 {
-    let [command, domain, zones @ ..] = words else {
+    let [command, rest @ ..] = words else {
         return Ok(None);
     };
     match command.as_str() {
-        "compile" => read_compile(alloc, domain.as_bytes(), zones),
+        "compile" => read_compile(alloc, rest),
+        "check" => read_check(alloc, rest),
         _ => Ok(None),
     }
 }
 
 // The job of a domain and zone words, which stand behind `compile`.
-fn read_compile(alloc: Global, domain: &[u8], zones: &[String]) -> Result<Option<Job>, AllocError>
+fn read_compile(alloc: Global, words: &[String]) -> Result<Option<Job>, AllocError>
     ensures { IfOk result (λ job. MatchOption job
-        ((any : Job) → ¬ Spells (codes "compile" ∷ domain.now ∷ texts zones.now) any)
-        (Spells (codes "compile" ∷ domain.now ∷ texts zones.now))) }
+        ((any : Job) → ¬ Spells (codes "compile" ∷ texts words.now) any)
+        (Spells (codes "compile" ∷ texts words.now))) }
 {
+    let [domain, zones @ ..] = words else {
+        return Ok(None);
+    };
+    let domain = domain.as_bytes();
     if !is_domain(domain) || domain.len() + LAST_LABEL.len() > MAX_NAME {
         return Ok(None);
     }
@@ -44,6 +50,37 @@ fn read_compile(alloc: Global, domain: &[u8], zones: &[String]) -> Result<Option
     };
     let domain = lowercase(alloc, domain)?;
     Ok(Some(Job::Compile { domain, zones }))
+}
+
+// The job of a domain, an address, reading options and zone words, which stand behind `check`.
+fn read_check(alloc: Global, words: &[String]) -> Result<Option<Job>, AllocError>
+    ensures { IfOk result (λ job. MatchOption job
+        ((any : Job) → ¬ Spells (codes "check" ∷ texts words.now) any)
+        (Spells (codes "check" ∷ texts words.now))) }
+{
+    let [domain, address, rest @ ..] = words else {
+        return Ok(None);
+    };
+    let domain = domain.as_bytes();
+    if !is_domain(domain) {
+        return Ok(None);
+    }
+    let Ok(address) = read_address(address.as_bytes()) else {
+        return Ok(None);
+    };
+    let Some(limits) = read_limits(rest) else {
+        return Ok(None);
+    };
+    let Some(zones) = read_zones(alloc, behind_options(rest))? else {
+        return Ok(None);
+    };
+    let domain = lowercase(alloc, domain)?;
+    Ok(Some(Job::Check {
+        domain,
+        address,
+        limits,
+        zones,
+    }))
 }
 
 fn lowercase(alloc: Global, text: &[u8]) -> Result<Bytes, AllocError>

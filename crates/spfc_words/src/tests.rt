@@ -1,4 +1,6 @@
 use super::*;
+use addr_bits::Address;
+use spf_model::Limits;
 use std::alloc::{AllocError, Global};
 use std::process::Abort;
 use std::test::Fail;
@@ -41,6 +43,81 @@ const JOBS: [Case<'static>; 4] = [
         domain: b"example.com",
         zones: &[(b"a.b", b"--size"), (b"b", b"z"), (b"c", b"z")],
     },
+];
+
+// Words that check, and the address and the limits that they give.
+struct CheckCase<'a> {
+    words: &'a [&'a str],
+    address: Address,
+    limits: Limits,
+}
+
+const CHECKS: [CheckCase<'static>; 3] = [
+    CheckCase {
+        words: &["check", "example.com", "192.0.2.7", "example.com=z"],
+        address: Address::V4(0xc000_0207),
+        limits: Limits {
+            lookups: 10,
+            voids: 2,
+            exchanges: 10,
+        },
+    },
+    CheckCase {
+        words: &[
+            "check",
+            "Example.com",
+            "::1",
+            "--voids",
+            "20",
+            "--lookups",
+            "11",
+            "example.com=z",
+        ],
+        address: Address::V6(1),
+        limits: Limits {
+            lookups: 11,
+            voids: 20,
+            exchanges: 10,
+        },
+    },
+    CheckCase {
+        words: &[
+            "check",
+            "example.com",
+            "::ffff:192.0.2.7",
+            "--exchanges",
+            "100",
+            "--lookups",
+            "20",
+            "--voids",
+            "2",
+            "example.com=z",
+        ],
+        address: Address::V6(0xffff_c000_0207),
+        limits: Limits {
+            lookups: 20,
+            voids: 2,
+            exchanges: 100,
+        },
+    },
+];
+
+const NO_CHECKS: [&[&str]; 13] = [
+    &["check", "example.com", "192.0.2.7"],
+    &["check", "example.com", "example.com=z"],
+    &["check", "example.com", "192.0.2.07", "a.b=z"],
+    &["check", "example", "192.0.2.7", "a.b=z"],
+    &["check", "a.b", "::1", "--lookups", "9", "a.b=z"],
+    &["check", "a.b", "::1", "--lookups", "21", "a.b=z"],
+    &["check", "a.b", "::1", "--voids", "+2", "a.b=z"],
+    &["check", "a.b", "::1", "--exchanges", "010", "a.b=z"],
+    &[
+        "check", "a.b", "::1", "--voids", "2", "--voids", "2", "a.b=z",
+    ],
+    &["check", "a.b", "::1", "a.b=z", "--voids", "2"],
+    &["check", "a.b", "::1", "--size", "64", "a.b=z"],
+    &["check", "a.b", "--voids", "2", "::1", "a.b=z"],
+    &["compile", "a.b", "--lookups", "11", "a.b=z"],
 ];
 
 const NO_JOBS: [&[&str]; 17] = [
@@ -97,6 +174,26 @@ fn try_job(rt: &impl Abort, alloc: Global, case: &Case<'_>) -> Result<(), Fail> 
     Ok(())
 }
 
+fn try_check(rt: &impl Abort, alloc: Global, case: &CheckCase<'_>) -> Result<(), Fail> {
+    let Some(
+        Job::Check {
+            domain,
+            address,
+            limits,
+            zones,
+        },
+    ) = read_words(alloc, &words(alloc, case.words)?)?
+    else {
+        assert!(rt; false);
+        return Ok(());
+    };
+    assert_eq!(rt; domain.as_slice(), b"example.com".as_slice());
+    assert_eq!(rt; address, case.address);
+    assert_eq!(rt; limits, case.limits);
+    assert_eq!(rt; zones.len(), 1);
+    Ok(())
+}
+
 #[test]
 fn words_that_give_a_job(rt: HostRuntime) -> Result<(), Fail> {
     for case in &JOBS {
@@ -106,8 +203,16 @@ fn words_that_give_a_job(rt: HostRuntime) -> Result<(), Fail> {
 }
 
 #[test]
+fn words_that_check(rt: HostRuntime) -> Result<(), Fail> {
+    for case in &CHECKS {
+        try_check(&rt, rt.alloc(), case)?;
+    }
+    Ok(())
+}
+
+#[test]
 fn words_that_give_none(rt: HostRuntime) -> Result<(), Fail> {
-    for texts in &NO_JOBS {
+    for texts in NO_JOBS.iter().chain(&NO_CHECKS) {
         let job = read_words(rt.alloc(), &words(rt.alloc(), texts)?)?;
         assert!(rt; job.is_none());
     }

@@ -51,11 +51,7 @@ bound (Err kind) f body e h = absurd cc
 
 name_fit : (build : List (List ℕ) → Body) → ((x : List (List ℕ)) → IsBodyFit (build x)) → (origin : List (List ℕ)) (content : List Token) (body : Body) → Ok body ≡ name_body build origin content → IsBodyFit body
 name_fit build plain origin content body e =
-<<<<<<< HEAD
     bound (only_name origin content) (λ name. Ok (build name)) body e (λ name h. let same : build name ≡ body = cc in subst IsBodyFit same (plain name))
-=======
-    bound (only_token content >>= λ token. name_in origin token) (λ name. Ok (build name)) body e (λ name h. let same : build name ≡ body = cc in subst IsBodyFit same (plain name))
->>>>>>> cb84a83d2920a3a8011125d21477ec42aad767db
 
 mx_fit-one : (t : Bool) (n : ℕ) (r : Result (List (List ℕ)) Kind) (body : Body) → (let whole : Result Body Kind = if t then (r >>= λ name. Ok (Mx n name)) else Err kinds.BadData in Ok body ≡ whole) → IsBodyFit body
 mx_fit-one true n r body e = bound r (λ name. Ok (Mx n name)) body e (λ name h. let same : Mx n name ≡ body = cc in subst IsBodyFit same tt)

@@ -1,0 +1,47 @@
+-- Options, which stand in front of the zone words. Their form is the project's own choice.
+use Rattle.std.specs.Prelude.{◌≡◌, ℕ, ◌≤◌, Bool, ◌||◌, List, [], ◌∷◌, codes, decimal, bytes_eq, if◌then◌else◌}
+use Rattle.spf_model.specs.declared.outcome.Limits.{Limits}
+
+-- an option as it is written: its name, and its value as the next word
+pub record Setting : Type 0 where
+  pub name : List ℕ
+  pub value : List ℕ
+
+-- the options in front, whose names pass the test
+abbrev pub settings_in : (is_option : List ℕ → Bool) → List (List ℕ) → List Setting
+settings_in is_option [] = []
+settings_in is_option (name ∷ []) = []
+settings_in is_option (name ∷ value ∷ words) = if is_option name then record { name = name; value = value } ∷ settings_in is_option words else []
+
+-- the words behind them
+abbrev pub words_behind : (is_option : List ℕ → Bool) → List (List ℕ) → List (List ℕ)
+words_behind is_option [] = []
+words_behind is_option (name ∷ []) = name ∷ []
+words_behind is_option (name ∷ value ∷ words) = if is_option name then words_behind is_option words else name ∷ value ∷ words
+
+-- the values that are written for an option
+abbrev pub values_of : (name : List ℕ) → List Setting → List (List ℕ)
+values_of name [] = []
+values_of name (setting ∷ settings) = if bytes_eq setting.name name then setting.value ∷ values_of name settings else values_of name settings
+
+-- an option is written at most once; where it is not, it is what it is by default
+abbrev pub IsOption : {A : Type 0} → (Spells : List ℕ → A → Type 0) → (by_default : A) → (values : List (List ℕ)) → A → Type 0
+IsOption Spells by_default [] a = a ≡ by_default
+IsOption Spells by_default (value ∷ []) a = Spells value a
+IsOption Spells by_default (value ∷ again ∷ values) a = ⊥
+
+-- decimal digits without a sign and without leading zeros, of a number from low to high
+pub record IsNumber (low high : ℕ) (text : List ℕ) (n : ℕ) : Type 0 where
+  pub written : text ≡ decimal n
+  pub least : low ≤ n
+  pub most : n ≤ high
+
+-- the options of the reading limits
+abbrev pub is_reading_option : List ℕ → Bool
+is_reading_option word = bytes_eq word (codes "--lookups") || (bytes_eq word (codes "--voids") || bytes_eq word (codes "--exchanges"))
+
+-- the reading limits; a receiver's (RFC 7208, section 4.6.4) where no option is written
+pub record AreLimits (settings : List Setting) (limits : Limits) : Type 0 where
+  pub lookups : IsOption (IsNumber 10 20) 10 (values_of (codes "--lookups") settings) limits.lookups
+  pub voids : IsOption (IsNumber 2 20) 2 (values_of (codes "--voids") settings) limits.voids
+  pub exchanges : IsOption (IsNumber 10 100) 10 (values_of (codes "--exchanges") settings) limits.exchanges
