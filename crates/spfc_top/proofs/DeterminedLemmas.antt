@@ -13,13 +13,22 @@ use Rattle.fewest_terms.specs.Chosen.{chosen_list}
 use Rattle.fewest_terms.specs.Totals.{total}
 use Rattle.fewest_terms.specs.Tables.{need_rows}
 use Rattle.spfc_words.specs.declared.job.Job.{Job}
-use Rattle.spfc_words.specs.declared.job.Job.TheVariants.{Compile}
+use Rattle.spfc_words.specs.declared.job.Job.TheVariants.{Compile, Check}
 use Rattle.spfc_words.specs.declared.zone_word.ZoneWord.{ZoneWord}
 use Rattle.spfc_top.specs.Due.{Due, Gives, Refuses}
 use Rattle.spfc_top.specs.Compiled.{fragment_of_one, AreVerdicts, TermsDue, too_big, written}
+use Rattle.addr_bits.specs.declared.address.Address.{Address}
+use Rattle.spf_model.specs.declared.outcome.Limits.{Limits}
+use Rattle.spf_model.specs.declared.outcome.Outcome.{Outcome}
+use Rattle.spf_model.specs.Run.{says}
+use Rattle.spf_model.specs.Result as model
+use Rattle.spf_model.specs.Lines.{outcome_words}
+use Rattle.spf_model.specs.Check.{check_host}
+use Rattle.spf_model.proofs.RunLaws.{one_end}
+use Rattle.spfc_top.specs.Lines.{line_of}
 use Rattle.spfc_top.specs.Zones.{Contents}
 use Rattle.spfc_top.specs.Published.{SpellsFlat, Publishes, spf_texts, flat_term}
-use Rattle.spfc_top.specs.Findings.{PolicyDue, not_yet, published, ZonesDue, IsDue}
+use Rattle.spfc_top.specs.Findings.{PolicyDue, not_yet, published, OutcomeDue, ZonesDue, IsDue}
 use Rattle.spfc_top.specs.Ends.{usage, job, OneIsDue}
 use Rattle.spfc_top.proofs.SameVerdicts.{Agree, rows_same, total_same, chosen_list_same}
 use Rattle.spfc_words.proofs.OneJob.{one_job}
@@ -73,6 +82,9 @@ some_twice (x ∷ xs) (y ∷ ys) e = first (head e) (some_twice xs ys (tail e))
     tail : Some x ∷ map Some xs ≡ Some y ∷ map Some ys → map Some xs ≡ map Some ys
     tail e = cc
 
+some_once : {A : Type 0} {found : Option A} {a b : A} → found ≡ Some a → found ≡ Some b → a ≡ b
+some_once p q = cc
+
 one_flat : (text : List ℕ) (xs ys : List FlatTerm) → SpellsFlat text xs → SpellsFlat text ys → xs ≡ ys
 one_flat text xs ys a b =
     let same : a.policy ≡ b.policy = one_policy one_address text a.policy b.policy a.spelled b.spelled in
@@ -101,8 +113,19 @@ one_behind held words Next x y one (Err line, a, n) (Ok zones, a', n') = absurd 
 one_behind held words Next x y one (Err line, a, n) (Err line', a', n') =
     n ∙ (ap (λ (l : List ℕ). Refuses 3 l) (err_twice refl (one_of_words held [] words _ _ a a')) ∙ sym n')
 
+one_outcome : (zones : List Zone) (limits : Limits) (domain : List ℕ) (a : Address) (o p : Outcome) → model.Gives (says zones) limits domain a o → model.Gives (says zones) limits domain a p → o ≡ p
+one_outcome zones limits domain a o p (name, counts, named, ends) (name', counts', named', ends') =
+    (one_end (one_policy one_address) (says zones) (check_host limits a domain name) o p counts counts' ends (rw (some_once named' named) at ends')).0
+
+gives_twice : (o p : Outcome) → o ≡ p → Gives (line_of [] (outcome_words o)) ≡ Gives (line_of [] (outcome_words p))
+gives_twice o p same = ap (λ (x : Outcome). Gives (line_of [] (outcome_words x))) same
+
+one_of_outcome : (domain : List ℕ) (address : Address) (limits : Limits) (zones : List Zone) (x y : Due) → OutcomeDue domain address limits zones x → OutcomeDue domain address limits zones y → x ≡ y
+one_of_outcome domain address limits zones x y (o, g, is) (p, h, is') = is ∙ (gives_twice o p (one_outcome zones limits domain address o p g h) ∙ sym is')
+
 one_of_job : (j : Job) (held : Contents) (x y : Due) → IsDue j held x → IsDue j held y → x ≡ y
 one_of_job (Compile domain words) held x y a b = one_behind held words _ x y (one_of_policy domain) a b
+one_of_job (Check domain address limits words) held x y a b = one_behind held words _ x y (one_of_outcome domain address limits) a b
 
 pub one_is_due : OneIsDue
 one_is_due g x y (usage none is) (usage none' is') = is ∙ sym is'

@@ -1,8 +1,15 @@
 -- What is due for a job, by what was read.
-use Rattle.std.proofs.Common.{◌≡◌, ◌||◌, ℕ, Bool, true, false, List, [], Option, Result, Ok, Err, IfOk, IfErr, IsTrue, ap}
+use Rattle.std.proofs.Common.{◌≡◌, ◌≤◌, ◌||◌, ℕ, Bool, true, false, List, [], ◌∷◌, Option, Result, Ok, Err, IsOk, IfOk, IfErr, IsTrue, ap, arith}
 use Rattle.zone_answers.specs.Zone.{Zone}
 use Rattle.spf_grammar.specs.declared.flat.FlatTerm.{FlatTerm}
-use Rattle.spfc_words.specs.declared.job.Job.TheVariants.{Compile}
+use Rattle.spfc_words.specs.declared.job.Job.{Job}
+use Rattle.spfc_words.specs.declared.job.Job.TheVariants.{Compile, Check}
+use Rattle.spfc_words.specs.Options.{Setting, AreLimits, IsOption, IsNumber}
+use Rattle.spf_model.specs.declared.outcome.Limits.{Limits}
+use Rattle.spf_model.specs.Result.{AreModest}
+use Rattle.spf_macros.specs.Words.{is_domain}
+use Rattle.dns_name.specs.Name.{name_of_text}
+use Rattle.std.specs.Str.{str_to_ascii_lowercase}
 use Rattle.spfc_words.specs.declared.zone_word.ZoneWord.{ZoneWord}
 use Rattle.spfc_words.specs.Words.{Spells}
 use Rattle.spfc_top.specs.declared.stop.Stop.{Stop}
@@ -11,26 +18,28 @@ use Rattle.spfc_top.specs.Due.{Due, Refuses, Gives}
 use Rattle.spfc_top.specs.Compiled.{TermsDue}
 use Rattle.spfc_top.specs.Zones.{Contents, ZoneWordsDue}
 use Rattle.spfc_top.specs.Published.{Publishes}
-use Rattle.spfc_top.specs.Findings.{PolicyDue, published, ZonesDue}
+use Rattle.spfc_top.specs.Findings.{PolicyDue, published, ZonesDue, IsDue, IsReady, words_of}
 use Rattle.spfc_top.specs.Answers.{FaultAmong, StopsBy, StopsTerms, RefusedBy, IsNoFault}
-use Rattle.spfc_top.specs.Ends.{Given, IsFinding, IsOutput, IsReadFault}
+use Rattle.spfc_top.specs.Ends.{Given, Tells, IsFinding, IsOutput, IsReadFault}
 
 told_alone : (told : Bool) → IsTrue (told || false) → IsTrue told
 told_alone true h = h
 told_alone false h = h
 
-pub compile_refused : (g : Given) (domain : List ℕ) (words : List ZoneWord) (status : ℕ) (line : List ℕ) → Spells g.words (Compile domain words) →
-    (IsTrue g.told → ZonesDue g.held words (PolicyDue domain) (Refuses status line)) → IsFinding g status line
-compile_refused g domain words status line is due = record { job = Compile domain words; is_job = is; is_due = λ t. due (told_alone g.told t) }
+told_told : (g : Given) (job : Job) → Tells g job → IsTrue g.told
+told_told g (Compile domain words) tells = told_alone g.told tells
+told_told g (Check domain address limits words) tells = told_alone g.told tells
 
-pub compile_done : (g : Given) (domain : List ℕ) (words : List ZoneWord) (bytes : List ℕ) → Spells g.words (Compile domain words) →
-    (IsTrue g.told → ZonesDue g.held words (PolicyDue domain) (Gives bytes)) → IsOutput g bytes
-compile_done g domain words bytes is due = record { job = Compile domain words; is_job = is; is_due = λ t. due (told_alone g.told t) }
+pub job_refused : (g : Given) (job : Job) (status : ℕ) (line : List ℕ) → Spells g.words job → (IsTrue g.told → IsDue job g.held (Refuses status line)) → IsFinding g status line
+job_refused g job status line is due = record { job = job; is_job = is; is_due = λ t. due (told_told g job t) }
 
-pub compile_faulty : (g : Given) (domain : List ℕ) (words : List ZoneWord) (before after : ℕ) (last : Option (List ℕ)) (line : List ℕ) → Spells g.words (Compile domain words) →
-    FaultAmong g.told g.held words before after last line → IsReadFault g before after last line
-compile_faulty g domain words before after last line is (name, among, fault, none) = record {
-  job = Compile domain words;
+pub job_done : (g : Given) (job : Job) (bytes : List ℕ) → Spells g.words job → (IsTrue g.told → IsDue job g.held (Gives bytes)) → IsOutput g bytes
+job_done g job bytes is due = record { job = job; is_job = is; is_due = λ t. due (told_told g job t) }
+
+pub job_faulty : (g : Given) (job : Job) (before after : ℕ) (last : Option (List ℕ)) (line : List ℕ) → Spells g.words job →
+    FaultAmong g.told g.held (words_of job) before after last line → IsReadFault g before after last line
+job_faulty g job before after last line is (name, among, fault, none) = record {
+  job = job;
   name = name;
   is_job = is;
   is_line = fault.0;
@@ -39,6 +48,31 @@ compile_faulty g domain words before after last line is (name, among, fault, non
   is_last = fault.2;
   none_before = none;
 }
+
+-- ---- the job of words is ready
+in_range : (low high by_default : ℕ) (values : List (List ℕ)) (n : ℕ) → IsOption (IsNumber low high) by_default values n → by_default ≤ 1000 → high ≤ 1000 → n ≤ 1000
+in_range low high by_default [] n is d h = omega (arith, is, d)
+in_range low high by_default (value ∷ []) n is d h = omega (arith, is.most, h)
+in_range low high by_default (value ∷ again ∷ values) n is d h = absurd is
+
+modest : (settings : List Setting) (limits : Limits) → AreLimits settings limits → AreModest limits
+modest settings limits are = record {
+  lookups = in_range 10 20 10 _ limits.lookups are.lookups (omega arith) (omega arith);
+  voids = in_range 2 20 2 _ limits.voids are.voids (omega arith) (omega arith);
+  exchanges = in_range 10 100 10 _ limits.exchanges are.exchanges (omega arith) (omega arith);
+}
+
+domain_is_name : (text : List ℕ) → IsTrue (is_domain text) → IsOk (name_of_text (str_to_ascii_lowercase text))
+domain_is_name text is = ?
+
+pub ready : (words : List (List ℕ)) (job : Job) → Spells words job → IsReady job
+ready words (Compile domain zones) is = tt
+ready [] (Check domain address limits zones) is = absurd is
+ready (command ∷ []) (Check domain address limits zones) is = absurd is.1
+ready (command ∷ word ∷ []) (Check domain address limits zones) is = absurd is.1
+ready (command ∷ word ∷ address_word ∷ words) (Check domain address limits zones) is =
+    let checked = is.1 in
+    (rw checked.lower (domain_is_name word checked.form), modest _ limits checked.reading)
 
 -- ---- what the terms of the zones come to
 pub policy_done : {E : Type 0} (domain : List ℕ) (zones : List Zone) (terms : List FlatTerm) (r : Result (List ℕ) E) → Publishes zones domain terms → IfOk r (λ bytes. TermsDue domain terms (Gives bytes)) →

@@ -16,7 +16,7 @@ use Rattle.fewest_terms.specs.Tables.{need_rows, IsGoodTable}
 use Rattle.fewest_terms.proofs.AnswerLemmas.{list-shortest, list-counted, list-prefixes, list-gives4, list-gives6}
 use Rattle.fewest_terms.proofs.TableLemmas.{need_rows-good}
 use Rattle.spfc_words.specs.declared.job.Job.{Job}
-use Rattle.spfc_words.specs.declared.job.Job.TheVariants.{Compile}
+use Rattle.spfc_words.specs.declared.job.Job.TheVariants.{Compile, Check}
 use Rattle.spfc_top.specs.Due.{Refuses, Gives}
 use Rattle.spfc_top.specs.Compiled.{AreVerdicts, TermsDue, too_big, written, IsShortest}
 use Rattle.spfc_top.specs.Zones.{Contents}
@@ -75,6 +75,8 @@ best_of_job (Compile domain words) held bytes (Ok zones, are, due) =
     let best = best_of_policy domain zones bytes due in
     (zones, best.0, are, best.1, best.2)
 best_of_job (Compile domain words) held bytes (Err line, are, due) = absurd (refuses_not due)
+best_of_job (Check domain address limits words) held bytes (Ok zones, are, (outcome, gives, is)) = (zones, outcome, are, gives, gives_same is)
+best_of_job (Check domain address limits words) held bytes (Err line, are, due) = absurd (refuses_not due)
 
 pub best_output : (g : Given) (bytes : List ℕ) → IsOutput g bytes → IsBestOutput g bytes
 best_output g bytes is = record { job = is.job; is_job = is.is_job; is_best = λ t. best_of_job is.job g.held bytes (is.is_due t) }

@@ -259,6 +259,78 @@ fn what_has_no_output_is_refused(rt: HostRuntime) -> Result<(), Fail> {
     Ok(())
 }
 
+// Words behind `check example.com`, a file, and the line that they come to.
+struct Outcome<'a> {
+    words: &'a [&'a str],
+    file: &'a [u8],
+    line: &'a [u8],
+}
+
+const OUTCOMES: [Outcome<'static>; 8] = [
+    Outcome {
+        words: &["192.0.2.7", "example.com=z"],
+        file: ROW_1,
+        line: b"pass\n",
+    },
+    Outcome {
+        words: &["::1", "example.com=z"],
+        file: ROW_1,
+        line: b"fail\n",
+    },
+    Outcome {
+        words: &["::ffff:192.0.2.7", "example.com=z"],
+        file: ROW_1,
+        line: b"fail\n",
+    },
+    Outcome {
+        words: &["192.0.2.7", "example.com=z"],
+        file: b"@ TXT \"v=spf1 include:%{s}.example.net -all\"\n",
+        line: b"open sender example.com 1\n",
+    },
+    Outcome {
+        words: &["192.0.2.7", "example.com=z"],
+        file: b"@ TXT \"v=spf1 foo -all\"\n",
+        line: b"permerror syntax example.com 0\n",
+    },
+    Outcome {
+        words: &["192.0.2.7", "example.com=z"],
+        file: b"",
+        line: b"none norecord example.com 0\n",
+    },
+    Outcome {
+        words: &["192.0.2.1", "example.com=z"],
+        file: b"@ TXT \"v=spf1 a:h1.example.com a:h2.example.com a:h3.example.com -all\"\n",
+        line: b"permerror voids example.com 3\n",
+    },
+    Outcome {
+        words: &["192.0.2.1", "--voids", "3", "example.com=z"],
+        file: b"@ TXT \"v=spf1 a:h1.example.com a:h2.example.com a:h3.example.com -all\"\n",
+        line: b"fail\n",
+    },
+];
+
+fn try_outcome(rt: &impl Abort, alloc: Global, case: &Outcome<'_>) -> Result<(), Fail> {
+    let mut files = one_file(alloc, b"z", case.file, &[])?;
+    let mut out = sink(alloc, &[])?;
+    let mut err = sink(alloc, &[])?;
+    let mut words = words(alloc, &["check", "example.com"])?;
+    for word in case.words {
+        words.push(String::from_str(alloc, word)?)?;
+    }
+    assert_eq!(rt; run(alloc, &words, &mut files, &mut out, &mut err), 0);
+    assert_eq!(rt; out.bytes(), case.line);
+    assert!(rt; err.bytes().is_empty());
+    Ok(())
+}
+
+#[test]
+fn outcomes_of_one_address(rt: HostRuntime) -> Result<(), Fail> {
+    for case in &OUTCOMES {
+        try_outcome(&rt, rt.alloc(), case)?;
+    }
+    Ok(())
+}
+
 // A third call of the files that fails, and a second write.
 #[test]
 fn faults_are_told(rt: HostRuntime) -> Result<(), Fail> {
