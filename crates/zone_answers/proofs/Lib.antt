@@ -9,3 +9,5 @@ pub mod Clashes
 pub mod Lending
 pub mod Texts
 pub mod Reading
+pub mod Examples
+pub mod Fit

@@ -1,7 +1,6 @@
 -- The records of a master file may be lent.
-use Rattle.std.proofs.Common.{◌≡◌, ℕ, ◌+◌, ◌<◌, ◌≤◌, Bool, true, false, cond, ◌||◌, ◌&&◌, List, [], ◌∷◌, ◌++◌, length, map, filter, sum_by, Result, Ok, Err, refl, sym, ap, subst, ◌∙◌, true≢false, arith, nat_lt, nat_le, if◌then◌else◌, codes}
+use Rattle.std.proofs.Common.{◌≡◌, ℕ, ◌+◌, ◌<◌, ◌≤◌, Bool, true, false, ◌||◌, List, [], ◌∷◌, length, map, filter, sum_by, Result, Ok, Err, refl, sym, subst, ◌∙◌, true≢false, arith, nat_lt, if◌then◌else◌, codes}
 use Rattle.std.specs.Bool.{MatchBool}
-use Rattle.std.specs.Result.{MatchResult}
 use Rattle.std.specs.List.{list_any, AllByRecursion}
 use Rattle.std.proofs.lemmas.Bool.{ltb-false}
 use Rattle.dns_name.specs.Name.{IsUnder, is_under}
@@ -71,8 +70,8 @@ other_fit : (origin : List (List ℕ)) (type : Token) (content : List Token) (bo
 other_fit origin type content body e =
     either (is_word type (codes "cname")) _ _ body e (name_fit Cname (λ _. tt) origin content body)
     (λ e2. either (is_word type (codes "ns")) _ _ body e2 (name_fit Ns (λ _. tt) origin content body)
-        (λ e3. either (is_word type (codes "mx")) _ _ body e3 (mx_fit origin content body)
-            (λ e4. either (is_word type (codes "txt")) _ _ body e4 (txt_fit content body) (λ e5. let same : Other ≡ body = cc in subst IsBodyFit same tt))))
+    (λ e3. either (is_word type (codes "mx")) _ _ body e3 (mx_fit origin content body)
+    (λ e4. either (is_word type (codes "txt")) _ _ body e4 (txt_fit content body) (λ e5. let same : Other ≡ body = cc in subst IsBodyFit same tt))))
 
 by_test : (t : Bool) (P Q G : Type 0) → MatchBool t P Q → (P → G) → (Q → G) → G
 by_test true P Q G h f g = f h
@@ -104,7 +103,7 @@ mean_lendable : (zone : List (List ℕ)) (context : Context) (entries : List Ent
 mean_lendable zone context [] behind records h = subst (AreLendable zone) (sym h.1) tt
 mean_lendable zone context (entry ∷ entries) behind records h =
     subst (AreLendable zone) (sym h.2.2) (all_append (λ r. IsUnder r.owner zone × IsBodyFit r.body) h.2.0 h.2.1 (adds_lendable zone context.origin h.0 h.2.0 h.2.3)
-        (mean_lendable zone (context_behind context h.0) entries behind h.2.1 h.2.4))
+    (mean_lendable zone (context_behind context h.0) entries behind h.2.1 h.2.4))
 
 pub read_lendable : (zone : List (List ℕ)) (bytes : List ℕ) (records : List Record) → Reads zone bytes records → AreLendable zone records
 read_lendable zone bytes records h = mean_lendable zone (first_context zone) (filter has_token h.entries) h.context records h.meaning
