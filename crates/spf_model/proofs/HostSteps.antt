@@ -70,7 +70,7 @@ pub stops : (zones : Answering) (site : Site) (t len4 len6 : ℕ) (before void a
 stops zones site t len4 len6 before void agrees hosts rest host counts halt so_far halts =
     halts_through zones (match_hosts site t counts len4 len6 before hosts) (ask site t counts (address_question site.address host))
     (λ go first. questions site rest (λ more. void_counted site t (before || list_any is_void (so_far.answers ++ first ∷ more)) counts
-        (λ counted. go (some_agrees len4 len6 site.address (so_far.answers ++ first ∷ more)) counted)) t counts) halt
+    (λ counted. go (some_agrees len4 len6 site.address (so_far.answers ++ first ∷ more)) counted)) t counts) halt
     (λ go. so_far.leads counts (λ answers. void_counted site t (before || list_any is_void answers) counts (λ counted. go (some_agrees len4 len6 site.address answers) counted)))
     halts
 

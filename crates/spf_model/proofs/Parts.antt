@@ -109,9 +109,11 @@ judged_through {A} zones whole part counts (Err halt) leads judged = halts_throu
 pub too_many : (zones : Answering) (site : Site) (t len4 len6 : ℕ) (found : Answer) (c : Counts) (halt : Halt) → halt ≡ Ended (Perm cause.Exchanges (at site t))
     → site.limits.exchanges < length (filter_map exchange_of (bodies_of found)) → Halts zones (match_exchanges site t c len4 len6 found) halt
 too_many zones site t len4 len6 found c halt e many =
-    subst (λ h. Halts zones (match_exchanges site t c len4 len6 found) h) (sym e)
-    (tt, λ go. if_ends zones (nat_le (length (filter_map exchange_of (bodies_of found))) site.limits.exchanges) (Perm cause.Exchanges (at site t)) c _
-        (lt-leb (length (filter_map exchange_of (bodies_of found))) site.limits.exchanges many))
+    subst (λ h. Halts zones (match_exchanges site t c len4 len6 found) h) (sym e) (
+      tt,
+      λ go. if_ends zones (nat_le (length (filter_map exchange_of (bodies_of found))) site.limits.exchanges) (Perm cause.Exchanges (at site t)) c _
+          (lt-leb (length (filter_map exchange_of (bodies_of found))) site.limits.exchanges many),
+    )
 
 -- few enough
 pub few_enough : (zones : Answering) (site : Site) (t len4 len6 : ℕ) (found : Answer) (c : Counts) (go : Bool → Counts → Run)

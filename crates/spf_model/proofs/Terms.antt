@@ -26,7 +26,7 @@ use Rattle.spf_model.proofs.RunLaws.{ends_after}
 abbrev pub TriedSoFar : Answering → Site → List Term → Counts → ℕ → List Term → Counts → Type 0
 TriedSoFar zones site terms first number rest counts = (depth : ℕ) → site.limits.lookups ≤ depth + first.lookups → (last : Counts → Run)
     → LeadsTo zones (tried (judge site (check site.limits site.address depth)) 1 terms first last)
-      (tried (judge site (check site.limits site.address depth)) number rest counts last)
+    (tried (judge site (check site.limits site.address depth)) number rest counts last)
 
 -- ---- the record that a term asks for
 
@@ -38,18 +38,38 @@ target_judged zones site sub t spec c text name d e (Ok v) found ends = λ go o 
     found (λ text name counts. then_do (sub text name counts) (judged_by site t go)) o a (ends_after zones (sub text name d) (judged_by site t go) (Is v) e o a ends h)
 target_judged zones site sub t spec c text name d e (Err Memory) found ends = tt
 target_judged zones site sub t spec c text name d e (Err (Ended (Is v))) found ends = absurd ends.0
-target_judged zones site sub t spec c text name d e (Err (Ended (Nothing p))) found ends = (tt, λ go. let end = ends.1 tt in
-    (end.0, found (λ text name counts. then_do (sub text name counts) (judged_by site t go)) (Perm cause.Missing (at site t)) end.0
-        (ends_after zones (sub text name d) (judged_by site t go) (Nothing p) end.0 (Perm cause.Missing (at site t)) end.0 end.1 (refl, refl))))
-target_judged zones site sub t spec c text name d e (Err (Ended (Perm q p))) found ends = (tt, λ go. let end = ends.1 tt in
-    (end.0, found (λ text name counts. then_do (sub text name counts) (judged_by site t go)) (Perm q p) end.0
-        (ends_after zones (sub text name d) (judged_by site t go) (Perm q p) end.0 (Perm q p) end.0 end.1 (refl, refl))))
-target_judged zones site sub t spec c text name d e (Err (Ended (Temp q p))) found ends = (tt, λ go. let end = ends.1 tt in
-    (end.0, found (λ text name counts. then_do (sub text name counts) (judged_by site t go)) (Temp q p) end.0
-        (ends_after zones (sub text name d) (judged_by site t go) (Temp q p) end.0 (Temp q p) end.0 end.1 (refl, refl))))
-target_judged zones site sub t spec c text name d e (Err (Ended (Unsettled q p))) found ends = (tt, λ go. let end = ends.1 tt in
-    (end.0, found (λ text name counts. then_do (sub text name counts) (judged_by site t go)) (Unsettled q p) end.0
-        (ends_after zones (sub text name d) (judged_by site t go) (Unsettled q p) end.0 (Unsettled q p) end.0 end.1 (refl, refl))))
+target_judged zones site sub t spec c text name d e (Err (Ended (Nothing p))) found ends = (
+  tt,
+  λ go. let end = ends.1 tt in (
+    end.0,
+    found (λ text name counts. then_do (sub text name counts) (judged_by site t go)) (Perm cause.Missing (at site t)) end.0
+        (ends_after zones (sub text name d) (judged_by site t go) (Nothing p) end.0 (Perm cause.Missing (at site t)) end.0 end.1 (refl, refl)),
+  ),
+)
+target_judged zones site sub t spec c text name d e (Err (Ended (Perm q p))) found ends = (
+  tt,
+  λ go. let end = ends.1 tt in (
+    end.0,
+    found (λ text name counts. then_do (sub text name counts) (judged_by site t go)) (Perm q p) end.0
+        (ends_after zones (sub text name d) (judged_by site t go) (Perm q p) end.0 (Perm q p) end.0 end.1 (refl, refl)),
+  ),
+)
+target_judged zones site sub t spec c text name d e (Err (Ended (Temp q p))) found ends = (
+  tt,
+  λ go. let end = ends.1 tt in (
+    end.0,
+    found (λ text name counts. then_do (sub text name counts) (judged_by site t go)) (Temp q p) end.0
+        (ends_after zones (sub text name d) (judged_by site t go) (Temp q p) end.0 (Temp q p) end.0 end.1 (refl, refl)),
+  ),
+)
+target_judged zones site sub t spec c text name d e (Err (Ended (Unsettled q p))) found ends = (
+  tt,
+  λ go. let end = ends.1 tt in (
+    end.0,
+    found (λ text name counts. then_do (sub text name counts) (judged_by site t go)) (Unsettled q p) end.0
+        (ends_after zones (sub text name d) (judged_by site t go) (Unsettled q p) end.0 (Unsettled q p) end.0 end.1 (refl, refl)),
+  ),
+)
 
 -- an include, by whether its record passes
 pub include_halts : (zones : Answering) (site : Site) (sub : Sub) (t : ℕ) (spec : List Piece) (c : Counts) (halt : Halt)

@@ -98,12 +98,7 @@ impl Frame<'_> {
 
     /// Whether a mechanism matches (RFC 7208, section 5).
     #[cycle(check_host)]
-    fn matches(
-        &self,
-        term: u32,
-        mechanism: &Mechanism,
-        counts: &mut Counts,
-    ) -> Result<bool, Halt>
+    fn matches(&self, term: u32, mechanism: &Mechanism, counts: &mut Counts) -> Result<bool, Halt>
         requires { MechanismFits mechanism.now }
         ensures judged { (depth : ℕ) → self.now.limits.lookups ≤ depth + counts.old.lookups → IsJudged (says self.now.zones.now)
             (judging.judge (site_of self.now) (checking.check self.now.limits self.now.address depth) term mechanism.now counts.old) counts.new result }

@@ -190,7 +190,7 @@ impl Frame<'_> {
         requires { TargetFits (Some spec.now) }
         ensures found { MatchResult result
             (λ r. (go : List ℕ → List (List ℕ) → CountsSoFar → Run) → LeadsTo (says self.now.zones.now)
-                (judging.with_domain (site_of self.now) term spec.now counts.old go) (go r.0 r.1 counts.new))
+            (judging.with_domain (site_of self.now) term spec.now counts.old go) (go r.0 r.1 counts.new))
             (Halts (says self.now.zones.now) (judging.with_domain (site_of self.now) term spec.now counts.old)) }
         ensures risen { OnOk result ((counts.new.lookups ≡ counts.old.lookups + 1) × (counts.new.lookups ≤ self.now.limits.lookups)) }
         ensures grows { counts.old.lookups ≤ counts.new.lookups }

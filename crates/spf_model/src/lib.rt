@@ -8,6 +8,8 @@ mod laws;
 mod lines;
 mod outcome;
 mod record;
+#[cfg(test)]
+mod tests;
 
 pub use check::check_one;
 pub use laws::{one_end, rests_on_its_questions};

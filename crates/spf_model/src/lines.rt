@@ -41,7 +41,12 @@ fn cause_word(cause: Cause) -> &'static str
 }
 
 /// Appends a cause and a place.
-fn push_cause(alloc: Global, words: &mut Bytes, cause: Cause, place: &Place) -> Result<(), AllocError>
+fn push_cause(
+    alloc: Global,
+    words: &mut Bytes,
+    cause: Cause,
+    place: &Place,
+) -> Result<(), AllocError>
     ensures { OnOk result (words.new ≡ words.old ++ cause_words cause place.now) }
 {
     words.extend_from_slice(cause_word(cause).as_bytes())?;

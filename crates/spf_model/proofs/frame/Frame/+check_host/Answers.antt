@@ -34,12 +34,12 @@ matches-returns-in_ok-verdict-in-Include-clause-judged t c = λ depth within.
     c.judge_target.new.counts c.in_ok-verdict-in-Include.verdict c.is_pass.result c.is_pass.ensures (c.in_ok-verdict-in-Include.ensures.judged depth within))
 
 pub matches-returns-in-A-clause-judged : goal.matches-returns-in-A-clause-judged
-matches-returns-in-A-clause-judged t c = 
+matches-returns-in-A-clause-judged t c =
     let judged = rw c.as_ref.ensures.value at c.match_a.ensures.judged in
     λ depth within. rw c.in-A.is (judged (check c.args.self.now.limits c.args.self.now.address depth))
 
 pub matches-returns-in-Mx-clause-judged : goal.matches-returns-in-Mx-clause-judged
-matches-returns-in-Mx-clause-judged t c = 
+matches-returns-in-Mx-clause-judged t c =
     let judged = rw c.as_ref-in-Mx.ensures.value at c.match_mx.ensures.judged in
     λ depth within. rw c.in-Mx.is (judged (check c.args.self.now.limits c.args.self.now.address depth))
 
@@ -70,7 +70,7 @@ try_term-returns-clause-tried t c = λ depth within.
 -- ---- the terms
 
 pub try_terms-returns-in_err-verdict-clause-tried : goal.try_terms-returns-in_err-verdict-clause-tried
-try_terms-returns-in_err-verdict-clause-tried t c = 
+try_terms-returns-in_err-verdict-clause-tried t c =
     let p = err_from_is_err_and c.from_residual.result c.from_residual.ensures.1 in
     let leads = rw (next_term c.args.terms.now c.loop-term.term-index c.term-item.result c.loop-term-test.true c.term-item.is) at c.loop-term.invariant.leads in
     λ depth within. rw (p.1, p.2)
@@ -78,14 +78,14 @@ try_terms-returns-in_err-verdict-clause-tried t c =
     leads c.loop-term.invariant.grown c.in_err-verdict.ensures.tried depth within)
 
 pub try_terms-returns-in-Some-clause-tried : goal.try_terms-returns-in-Some-clause-tried
-try_terms-returns-in-Some-clause-tried t c = 
+try_terms-returns-in-Some-clause-tried t c =
     let leads = rw (next_term c.args.terms.now c.loop-term.term-index c.term-item.result c.loop-term-test.true c.term-item.is) at c.loop-term.invariant.leads in
     let matched = rw c.in-Some.is at c.in_ok-verdict.ensures.tried in
     more_matches (says c.args.self.now.zones.now) (site_of c.args.self.now) c.args.terms.now (drop (c.loop-term.term-index + 1) c.args.terms.now) c.args.counts.now c.loop-term.counts c.try_term.new.counts c.loop-term.number c.term-item.result c.in-Some.verdict
     leads c.loop-term.invariant.grown matched
 
 pub try_terms-loop-term-preserved : goal.try_terms-loop-term-preserved
-try_terms-loop-term-preserved t c = 
+try_terms-loop-term-preserved t c =
     let leads = rw (next_term c.args.terms.now c.loop-term.term-index c.term-item.result c.loop-term-test.true c.term-item.is) at c.loop-term.invariant.leads in
     let fit = rw (next_term c.args.terms.now c.loop-term.term-index c.term-item.result c.loop-term-test.true c.term-item.is) at c.loop-term.invariant.fit in
     let passed = rw c.in_default.is at c.in_ok-verdict.ensures.tried in
@@ -97,7 +97,7 @@ try_terms-loop-term-preserved t c =
     }
 
 pub try_terms-returns-clause-tried : goal.try_terms-returns-clause-tried
-try_terms-returns-clause-tried t c = 
+try_terms-returns-clause-tried t c =
     let leads = rw (drop_all c.loop-term.term-index c.args.terms.now c.loop-term-test.false) at c.loop-term.invariant.leads in
     λ depth within go. leads depth within go
 
@@ -124,19 +124,19 @@ judge_record-returns-in-Some-clause-judged t c =
     tried depth deep
 
 pub judge_record-judge_target-requires : goal.judge_record-judge_target-requires
-judge_record-judge_target-requires t c = 
+judge_record-judge_target-requires t c =
     let e = c.in-Some-redirect_of.ensures ∙ ap (λ (terms : List Term). redirect_from 1 terms) c.as_slice-2.ensures in
     (omega (arith, c.decreases, c.in_ok-verdict.ensures.grows), redirect_fits 1 c.in_ok-terms.terms c.in-Some-redirect_of.term c.in-Some-redirect_of.spec.now c.in_ok-terms.ensures.fit e)
 
 pub judge_record-returns-in-Some-redirect_of-clause-judged : goal.judge_record-returns-in-Some-redirect_of-clause-judged
-judge_record-returns-in-Some-redirect_of-clause-judged t c = 
+judge_record-returns-in-Some-redirect_of-clause-judged t c =
     let passed = rw (c.in_default.is, c.as_slice.ensures) at c.in_ok-verdict.ensures.tried in
     redirects (says c.args.self.now.zones.now) (site_of c.args.self.now) c.args.counts.now c.try_terms.new.counts c.judge_target.new.counts c.in_ok-terms.terms c.in-Some-redirect_of.term c.in-Some-redirect_of.spec.now
     c.judge_target.result c.requires c.in_ok-terms.ensures.found passed c.in_ok-verdict.ensures.grows
     (c.in-Some-redirect_of.ensures ∙ ap (λ (terms : List Term). redirect_from 1 terms) c.as_slice-2.ensures) c.judge_target.ensures.judged
 
 pub judge_record-returns-clause-judged : goal.judge_record-returns-clause-judged
-judge_record-returns-clause-judged t c = 
+judge_record-returns-clause-judged t c =
     let passed = rw (c.in_default.is, c.as_slice.ensures) at c.in_ok-verdict.ensures.tried in
     neutral (says c.args.self.now.zones.now) (site_of c.args.self.now) c.args.counts.now c.try_terms.new.counts c.in_ok-terms.terms c.requires c.in_ok-terms.ensures.found passed
     (c.in-None.ensures ∙ ap (λ (terms : List Term). redirect_from 1 terms) c.as_slice-2.ensures)

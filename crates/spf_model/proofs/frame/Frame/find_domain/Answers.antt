@@ -29,5 +29,5 @@ returns-in_err-name-clause-found c =
     (λ go name. go c.in_ok-text.text name c.count_lookup.new.counts)
     c.in_err-name.field-0.0
     (domain_name (says c.args.self.now.zones.now) (site_of c.args.self.now) c.args.term c.args.spec.now c.args.counts.now c.count_lookup.new.counts c.in_ok-text.text
-        c.in_ok-count_lookup.ensures.counted (c.in_ok-text.ensures c.count_lookup.new.counts))
+    c.in_ok-count_lookup.ensures.counted (c.in_ok-text.ensures c.count_lookup.new.counts))
     (halts c.count_lookup.new.counts))

@@ -24,5 +24,5 @@ returns-clause-found c =
     settled_on (says c.args.self.now.zones.now) (with_host (site_of c.args.self.now) c.args.term (option_map (λ s. s.now) c.args.spec) c.args.counts.now)
     (with_name (Unsettled cause.Target (at (site_of c.args.self.now) c.args.term)) c.count_lookup.new.counts (name_of c.in_ok-text.text)) c.count_lookup.new.counts c.host_name.result
     (host_name (says c.args.self.now.zones.now) (site_of c.args.self.now) c.args.term (option_map (λ s. s.now) c.args.spec) c.args.counts.now c.count_lookup.new.counts c.in_ok-text.text
-        c.in_ok-count_lookup.ensures.counted (c.in_ok-text.ensures c.count_lookup.new.counts))
+    c.in_ok-count_lookup.ensures.counted (c.in_ok-text.ensures c.count_lookup.new.counts))
     (rw c.as_slice.ensures at c.host_name.ensures c.count_lookup.new.counts)

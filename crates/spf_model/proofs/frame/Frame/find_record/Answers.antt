@@ -31,5 +31,5 @@ returns-in-Found-clause-found c = λ counts.
     let chosen = rw c.as_slice.ensures at c.choose_record.ensures.chosen in
     settled_through (says c.args.self.now.zones.now) (with_record c.args.self.now.name.now counts) (with_answer c.args.self.now.name.now counts (answer.Found c.in-Found.bodies)) c.choose_record.result
     (answered_with (says c.args.self.now.zones.now) c.args.self.now.name.now (answer.Found c.in-Found.bodies) (omega (arith, c.label_count.ensures.labels, c.if-label_count-lt2.false))
-        (sym c.in-Found.is ∙ c.in_ok-answer.ensures) counts)
+    (sym c.in-Found.is ∙ c.in_ok-answer.ensures) counts)
     (chosen counts)

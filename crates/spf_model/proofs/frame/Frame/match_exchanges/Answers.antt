@@ -25,5 +25,5 @@ returns-clause-judged c =
     (match_hosts (site_of c.args.self.now) c.args.term c.args.counts.now c.args.lens.len4 c.args.lens.len6 (is_void c.args.answer.now) (filter_map exchange_of (bodies_of c.args.answer.now)))
     c.match_hosts.new.counts c.match_hosts.result
     (λ go. few_enough (says c.args.self.now.zones.now) (site_of c.args.self.now) c.args.term c.args.lens.len4 c.args.lens.len6 c.args.answer.now c.args.counts.now go
-        (subst (λ (k : ℕ). k ≤ c.args.self.now.limits.exchanges) n c.if-hosts-self.false))
+    (subst (λ (k : ℕ). k ≤ c.args.self.now.limits.exchanges) n c.if-hosts-self.false))
     (rw (e, c.is_void.ensures) at c.match_hosts.ensures.judged)

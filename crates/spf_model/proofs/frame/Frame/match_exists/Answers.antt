@@ -29,6 +29,5 @@ returns-in_err-count_void-clause-judged c = λ sub.
     (λ go. go (is_found c.in_ok-answer.answer))
     c.in_err-count_void.field-0.0
     (λ go outcome after h. c.in_ok-name.ensures.found (λ name d. ask (site_of c.args.self.now) c.args.term d (record { name = name; kind = kind.A }) (λ found. void_counted (site_of c.args.self.now) c.args.term (is_void found) d (λ d. go (is_found found) d))) outcome after
-        (c.in_ok-answer.ensures c.find_host.new.counts (λ found. void_counted (site_of c.args.self.now) c.args.term (is_void found) c.find_host.new.counts (λ d. go (is_found found) d)) outcome after h))
+    (c.in_ok-answer.ensures c.find_host.new.counts (λ found. void_counted (site_of c.args.self.now) c.args.term (is_void found) c.find_host.new.counts (λ d. go (is_found found) d)) outcome after h))
     halts)
-

@@ -35,5 +35,5 @@ returns-clause-judged c = λ sub.
     judged_through (says c.args.self.now.zones.now) (judge (site_of c.args.self.now) sub c.args.term (Mx (option_map (λ s. s.now) c.args.spec) c.args.lens.len4 c.args.lens.len6) c.args.counts.now)
     (match_exchanges (site_of c.args.self.now) c.args.term c.find_host.new.counts c.args.lens.len4 c.args.lens.len6 c.in_ok-answer.answer) c.match_exchanges.new.counts c.match_exchanges.result
     (λ go outcome after h. c.in_ok-name.ensures.found (λ name d. ask (site_of c.args.self.now) c.args.term d (record { name = name; kind = kind.Mx }) (λ found. match_exchanges (site_of c.args.self.now) c.args.term d c.args.lens.len4 c.args.lens.len6 found go)) outcome after
-        (c.in_ok-answer.ensures c.find_host.new.counts (λ found. match_exchanges (site_of c.args.self.now) c.args.term c.find_host.new.counts c.args.lens.len4 c.args.lens.len6 found go) outcome after h))
+    (c.in_ok-answer.ensures c.find_host.new.counts (λ found. match_exchanges (site_of c.args.self.now) c.args.term c.find_host.new.counts c.args.lens.len4 c.args.lens.len6 found go) outcome after h))
     c.match_exchanges.ensures.judged
