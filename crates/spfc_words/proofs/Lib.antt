@@ -1,2 +1,3 @@
 pub mod OneJob
 pub mod Zones
+pub mod Domains
