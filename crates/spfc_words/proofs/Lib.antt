@@ -3,3 +3,4 @@ pub mod Families
 pub mod OneJob
 pub mod Settings
 pub mod Zones
+pub mod Domains

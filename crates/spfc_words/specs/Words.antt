@@ -2,6 +2,7 @@
 use Rattle.std.specs.Prelude.{◌≡◌, ◌≢◌, ℕ, ◌+◌, ◌<◌, ◌≤◌, ◌==◌, Bool, IsTrue, ◌||◌, List, [], ◌∷◌, length, map, Ok, nat_le, codes, String, string_bytes, bytes_eq, AllPairs}
 use Rattle.std.specs.List.{AllZip, list_all, slice_split, before_first, after_first}
 use Rattle.std.specs.Str.{str_to_ascii_lowercase}
+use Rattle.std.specs.Result.{IsOk}
 use Rattle.std.specs.declared.alloc.Global.{Global}
 use Rattle.dns_name.specs.Name.{name_of_text, is_dot}
 use Rattle.dns_name.specs.Parts.{without_final}
@@ -88,3 +89,7 @@ Spells (command ∷ words) (Check domain address limits zones) = (command ≡ co
 -- words spell at most one job
 abbrev pub OneJob : Type 0
 OneJob = (words : List (List ℕ)) (a b : Job) → Spells words a → Spells words b → a ≡ b
+
+-- RFC 1034, section 3.1, and RFC 1035, section 2.3.4: a domain, taken in lower case, is a legal name
+abbrev pub DomainsAreNames : Type 0
+DomainsAreNames = (text : List ℕ) → IsTrue (is_domain text) → IsOk (name_of_text (str_to_ascii_lowercase text))

@@ -8,7 +8,7 @@ mod read;
 mod zone_word;
 
 pub use job::Job;
-pub use laws::one_job;
+pub use laws::{domains_are_names, one_job};
 pub use read::read_words;
 pub use zone_word::{ZoneWord, ZoneWords};
 

@@ -1,0 +1,132 @@
+-- A domain, taken in lower case, is a legal name.
+use Rattle.std.proofs.Common.{◌≡◌, ℕ, ◌+◌, ◌≤◌, ◌==◌, Bool, true, false, cond, nat_lt, IsTrue, IsOk, List, [], ◌∷◌, length, map, bytes_eq, Ok, Err, None, refl, sym, ap, subst, ◌∙◌, arith, le-ltb, ne_eqb}
+use Rattle.std.specs.List.{list_all, slice_split, onto_first}
+use Rattle.std.specs.Char.{to_ascii_lowercase}
+use Rattle.std.specs.Str.{str_to_ascii_lowercase}
+use Rattle.std.proofs.lemmas.Bool.{and_parts, leb-true, ltb-false}
+use Rattle.std.proofs.lemmas.List.{length-map}
+use Rattle.std.proofs.lemmas.List.Splits.{slice_split-cons_yes, slice_split-cons_no}
+use Rattle.dns_name.specs.declared.fault.NameFault.TheVariants.{NameLong}
+use Rattle.dns_name.specs.Parts.{without_final}
+use Rattle.dns_name.specs.Wire.{wire_form}
+use Rattle.dns_name.specs.Name.{IsLabel, lowercase_label, label_fault, earlier_fault, first_fault, fault_or, name_of_labels, name_of_text, is_dot}
+use Rattle.dns_name.proofs.Names.{parts_of, no_fault_from_label}
+use Rattle.spf_macros.specs.Words.{is_domain, is_domain_label}
+
+-- ---- labels in lower case
+-- lower case makes no dot, and takes none away
+dot_lower : (b : ℕ) → is_dot (to_ascii_lowercase b) ≡ is_dot b
+dot_lower b = by (nat_lt b 65) (nat_lt b 91) refl
+  where
+    by : (s t : Bool) → nat_lt b 65 ≡ s → (cond s b (cond t (b + 32) b) == 46) ≡ (b == 46)
+    by true t e = refl
+    by false false e = refl
+    by false true e =
+        let above : 65 ≤ b = ltb-false b 65 e in
+        ne_eqb (b + 32) 46 (λ (same : b + 32 ≡ 46). omega arith) ∙ sym (ne_eqb b 46 (λ (same : b ≡ 46). omega arith))
+
+onto_lower : (b : ℕ) (labels : List (List ℕ)) → onto_first (to_ascii_lowercase b) (map lowercase_label labels) ≡ map lowercase_label (onto_first b labels)
+onto_lower b [] = refl
+onto_lower b (label ∷ labels) = refl
+
+-- the labels of a text in lower case
+split_lower : (text : List ℕ) → slice_split is_dot (str_to_ascii_lowercase text) ≡ map lowercase_label (slice_split is_dot text)
+split_lower [] = refl
+split_lower (b ∷ text) = by (is_dot b) refl (split_lower text)
+  where
+    by : (t : Bool) → is_dot b ≡ t → slice_split is_dot (str_to_ascii_lowercase text) ≡ map lowercase_label (slice_split is_dot text) → slice_split is_dot (str_to_ascii_lowercase (b ∷ text)) ≡ map lowercase_label (slice_split is_dot (b ∷ text))
+    by true e rest =
+        slice_split-cons_yes is_dot (to_ascii_lowercase b) (str_to_ascii_lowercase text) (dot_lower b ∙ e)
+        ∙ ap (λ (ls : List (List ℕ)). [] ∷ ls) rest ∙ sym (ap (map lowercase_label) (slice_split-cons_yes is_dot b text e))
+    by false e rest =
+        slice_split-cons_no is_dot (to_ascii_lowercase b) (str_to_ascii_lowercase text) (dot_lower b ∙ e)
+        ∙ ap (onto_first (to_ascii_lowercase b)) rest ∙ onto_lower b (slice_split is_dot text) ∙ sym (ap (map lowercase_label) (slice_split-cons_no is_dot b text e))
+
+legal_label : (label : List ℕ) → is_domain_label label ≡ true → IsLabel (lowercase_label label)
+legal_label label h =
+    let sizes = and_parts _ _ (and_parts _ _ (and_parts _ _ h).0).0 in
+    let some : 1 ≤ length label = leb-true 1 (length label) sizes.0 in
+    let few : length label ≤ 63 = leb-true (length label) 63 sizes.1 in
+    let same : length (lowercase_label label) ≡ length label = simp length-map in
+    (omega arith, omega arith)
+
+legal_labels : (labels : List (List ℕ)) → list_all is_domain_label labels ≡ true → first_fault (map lowercase_label labels) ≡ None
+legal_labels [] h = refl
+legal_labels (label ∷ labels) h =
+    let parts = and_parts (is_domain_label label) (list_all is_domain_label labels) h in
+    ap (λ f. earlier_fault f (first_fault (map lowercase_label labels))) (no_fault_from_label (lowercase_label label) (legal_label label parts.0)) ∙ legal_labels labels parts.1
+
+-- ---- the length on the wire
+onto_length : (b : ℕ) (labels : List (List ℕ)) → 2 ≤ length (wire_form labels) → length (wire_form (onto_first b labels)) ≡ length (wire_form labels) + 1
+onto_length b [] h = absurd (omega (arith, h))
+onto_length b (label ∷ labels) h = omega arith
+
+-- a length octet for each dot, one for the first label, and the root's
+wire_length : (text : List ℕ) → length (wire_form (slice_split is_dot text)) ≡ length text + 2
+wire_length [] = refl
+wire_length (b ∷ text) = by (is_dot b) refl (wire_length text)
+  where
+    by : (t : Bool) → is_dot b ≡ t → length (wire_form (slice_split is_dot text)) ≡ length text + 2 → length (wire_form (slice_split is_dot (b ∷ text))) ≡ length (b ∷ text) + 2
+    by true e rest = ap (λ ls. length (wire_form ls)) (slice_split-cons_yes is_dot b text e) ∙ omega (arith, rest)
+    by false e rest = ap (λ ls. length (wire_form ls)) (slice_split-cons_no is_dot b text e) ∙ onto_length b (slice_split is_dot text) (omega (arith, rest)) ∙ omega (arith, rest)
+
+-- ---- no final dot
+abbrev behind : List (List ℕ) → List (List ℕ)
+behind [] = []
+behind (label ∷ labels) = labels
+
+behind_onto : (b : ℕ) (labels : List (List ℕ)) → behind (onto_first b labels) ≡ behind labels
+behind_onto b [] = refl
+behind_onto b (label ∷ labels) = refl
+
+behind_legal : (labels : List (List ℕ)) → first_fault labels ≡ None → first_fault (behind labels) ≡ None
+behind_legal [] h = refl
+behind_legal (label ∷ labels) h = (parts_of (label_fault label) (first_fault labels) h).1
+
+-- a byte in front leaves the later labels
+behind_next : (b : ℕ) (text : List ℕ) → first_fault (behind (slice_split is_dot (b ∷ text))) ≡ None → first_fault (behind (slice_split is_dot text)) ≡ None
+behind_next b text h = by (is_dot b) refl
+  where
+    by : (t : Bool) → is_dot b ≡ t → first_fault (behind (slice_split is_dot text)) ≡ None
+    by true e = behind_legal (slice_split is_dot text) (subst (λ ls. first_fault (behind ls) ≡ None) (slice_split-cons_yes is_dot b text e) h)
+    by false e = ap first_fault (sym (behind_onto b (slice_split is_dot text))) ∙ subst (λ ls. first_fault (behind ls) ≡ None) (slice_split-cons_no is_dot b text e) h
+
+-- where the labels behind the first are legal, the text ends in no dot
+no_final_dot : (text : List ℕ) → first_fault (behind (slice_split is_dot text)) ≡ None → without_final is_dot text ≡ text
+no_final_dot [] h = refl
+no_final_dot (b ∷ []) h = by (is_dot b) refl
+  where
+    by : (t : Bool) → is_dot b ≡ t → cond t [] (b ∷ []) ≡ b ∷ []
+    by true e = let none = subst (λ ls. first_fault (behind ls) ≡ None) (slice_split-cons_yes is_dot b [] e) h in absurd cc
+    by false e = refl
+no_final_dot (b ∷ c ∷ text) h = ap (λ (t : List ℕ). b ∷ t) (no_final_dot (c ∷ text) (behind_next b (c ∷ text) h))
+
+-- ---- domains
+-- a text of legal labels, with at most 253 characters
+legal_text : (text : List ℕ) → first_fault (slice_split is_dot text) ≡ None → length text ≤ 253 → IsOk (name_of_text text)
+legal_text text legal short = by (bytes_eq text (46 ∷ []))
+  where
+    fits : nat_lt 255 (length (wire_form (slice_split is_dot text))) ≡ false
+    fits = le-ltb 255 (length (wire_form (slice_split is_dot text))) (omega (arith, wire_length text))
+
+    made : name_of_labels (slice_split is_dot text) ≡ Ok (map lowercase_label (slice_split is_dot text))
+    made =
+        ap (λ f. fault_or f (cond (nat_lt 255 (length (wire_form (slice_split is_dot text)))) (Err NameLong) (Ok (map lowercase_label (slice_split is_dot text))))) legal
+        ∙ ap (λ t. cond t (Err NameLong) (Ok (map lowercase_label (slice_split is_dot text)))) fits
+
+    whole : without_final is_dot text ≡ text
+    whole = no_final_dot text (behind_legal (slice_split is_dot text) legal)
+
+    by : (t : Bool) → IsOk (cond t (Ok []) (name_of_labels (slice_split is_dot (without_final is_dot text))))
+    by true = refl
+    by false = subst (λ t. IsOk (name_of_labels (slice_split is_dot t))) (sym whole) (subst (λ r. IsOk r) (sym made) refl)
+
+lower_short : (text : List ℕ) → length text ≤ 253 → length (str_to_ascii_lowercase text) ≤ 253
+lower_short text short = let same : length (str_to_ascii_lowercase text) ≡ length text = simp length-map in omega arith
+
+pub domain_is_name : (text : List ℕ) → IsTrue (is_domain text) → IsOk (name_of_text (str_to_ascii_lowercase text))
+domain_is_name text h =
+    let parts = and_parts _ _ h in
+    let legal : list_all is_domain_label (slice_split is_dot text) ≡ true = (and_parts _ _ (and_parts _ _ parts.0).0).1 in
+    let short : length text ≤ 253 = leb-true (length text) 253 parts.1 in
+    legal_text (str_to_ascii_lowercase text) (ap first_fault (split_lower text) ∙ legal_labels (slice_split is_dot text) legal) (lower_short text short)
