@@ -77,8 +77,10 @@ some_twice (x ∷ xs) (y ∷ ys) e = first (head e) (some_twice xs ys (tail e))
   where
     first : x ≡ y → xs ≡ ys → x ∷ xs ≡ y ∷ ys
     first a b = cc
+
     head : Some x ∷ map Some xs ≡ Some y ∷ map Some ys → x ≡ y
     head e = cc
+
     tail : Some x ∷ map Some xs ≡ Some y ∷ map Some ys → map Some xs ≡ map Some ys
     tail e = cc
 

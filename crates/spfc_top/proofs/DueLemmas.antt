@@ -1,5 +1,5 @@
 -- What is due for a job, by what was read.
-use Rattle.std.proofs.Common.{◌≡◌, ◌≤◌, ◌||◌, ℕ, Bool, true, false, List, [], ◌∷◌, Option, Result, Ok, Err, IsOk, IfOk, IfErr, IsTrue, ap, arith}
+use Rattle.std.proofs.Common.{◌≡◌, ◌≤◌, ◌||◌, ℕ, Bool, true, false, List, [], ◌∷◌, Option, Result, Ok, Err, IfOk, IfErr, IsTrue, ap, arith}
 use Rattle.zone_answers.specs.Zone.{Zone}
 use Rattle.spf_grammar.specs.declared.flat.FlatTerm.{FlatTerm}
 use Rattle.spfc_words.specs.declared.job.Job.{Job}
@@ -7,9 +7,7 @@ use Rattle.spfc_words.specs.declared.job.Job.TheVariants.{Compile, Check}
 use Rattle.spfc_words.specs.Options.{Setting, AreLimits, IsOption, IsNumber}
 use Rattle.spf_model.specs.declared.outcome.Limits.{Limits}
 use Rattle.spf_model.specs.Result.{AreModest}
-use Rattle.spf_macros.specs.Words.{is_domain}
-use Rattle.dns_name.specs.Name.{name_of_text}
-use Rattle.std.specs.Str.{str_to_ascii_lowercase}
+use Rattle.spfc_words.proofs.Domains.{domain_is_name}
 use Rattle.spfc_words.specs.declared.zone_word.ZoneWord.{ZoneWord}
 use Rattle.spfc_words.specs.Words.{Spells}
 use Rattle.spfc_top.specs.declared.stop.Stop.{Stop}
@@ -61,9 +59,6 @@ modest settings limits are = record {
   voids = in_range 2 20 2 _ limits.voids are.voids (omega arith) (omega arith);
   exchanges = in_range 10 100 10 _ limits.exchanges are.exchanges (omega arith) (omega arith);
 }
-
-domain_is_name : (text : List ℕ) → IsTrue (is_domain text) → IsOk (name_of_text (str_to_ascii_lowercase text))
-domain_is_name text is = ?
 
 pub ready : (words : List (List ℕ)) (job : Job) → Spells words job → IsReady job
 ready words (Compile domain zones) is = tt

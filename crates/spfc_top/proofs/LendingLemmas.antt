@@ -74,9 +74,12 @@ lent_at held words i d zones more lt first next =
 
 pub faulty_at : (told : Bool) (held : Contents) (words : List ZoneWord) (i : ℕ) (d : ZoneWord) (zones : List Zone) (before between after : ℕ) (last : Option (List ℕ)) (line : List ℕ) → i < length words →
     (IsTrue told → ZoneWordsDue held [] (take i words) (Ok zones)) → before ≤ between → FaultOf told (get_or words i d).file between after last line → FaultAmong told held words before after last line
-faulty_at told held words i d zones before between after last line lt first later fault =
-    ((get_or words i d).file, contains_at words i d lt, (fault.0, rose_sooner before between after later fault.1, fault.2),
-    λ t. words_front held [] zones (words_before (get_or words i d).file words) (before_at words i d lt).0 (rw (before_at words i d lt).1 at (first t)))
+faulty_at told held words i d zones before between after last line lt first later fault = (
+  (get_or words i d).file,
+  contains_at words i d lt,
+  (fault.0, rose_sooner before between after later fault.1, fault.2),
+  λ t. words_front held [] zones (words_before (get_or words i d).file words) (before_at words i d lt).0 (rw (before_at words i d lt).1 at (first t)),
+)
   where
     rose_sooner : (x y z : ℕ) → x ≤ y → Rose y z → Rose x z
     rose_sooner x y z le rose = omega (arith, le, rose)

@@ -30,12 +30,7 @@ fn stop_of(alloc: Global, origin: &Name, fault: LendFault) -> Stop
 }
 
 // Lends the records of a zone word beside the zones before it.
-fn lend(
-    alloc: Global,
-    zones: &mut Zones,
-    word: &ZoneWord,
-    records: Records,
-) -> Result<(), Stop>
+fn lend(alloc: Global, zones: &mut Zones, word: &ZoneWord, records: Records) -> Result<(), Stop>
     requires { AreLendable word.now.origin records }
     ensures lent { OnOk result (LendDue zones.old word.now.origin records (Ok zones.new)) }
     ensures stops { IfErr result (StopsBy (RefusedBy (LendDue zones.old word.now.origin records)) (λ line. ⊥)) }

@@ -131,11 +131,7 @@ fn take_rest<F: Files>(alloc: Global, files: &mut F, origin: &Name) -> Result<Ta
 }
 
 // Chooses the file of a zone word and reads it; `None` where there is no such file.
-fn load<F: Files>(
-    alloc: Global,
-    files: &mut F,
-    word: &ZoneWord,
-) -> Result<Option<Taken>, OpenFault>
+fn load<F: Files>(alloc: Global, files: &mut F, word: &ZoneWord) -> Result<Option<Taken>, OpenFault>
     ensures told { F.told files.new ≡ F.told files.old }
     ensures held { F.held files.new ≡ F.held files.old }
     ensures loaded { IfOk result (HasLoaded (F.told files.old) word.now.origin (F.held files.old word.now.file)) }

@@ -28,5 +28,5 @@ loop-word-preserved g c =
       later = omega (arith, e.later, i.later);
       assured = λ sure. e.assured (i.assured sure);
       lent = λ t. lent_at _ c.args.words.now c.loop-word.word-index _ c.loop-word.zones c.lend.new.zones (search rules) (i.lent t)
-        (Ok c.in_ok-records.records, (rw (c.word-item.is, i.told, i.held) at e.done) t, rw c.word-item.is at c.in_ok-lend.ensures.lent);
+          (Ok c.in_ok-records.records, (rw (c.word-item.is, i.told, i.held) at e.done) t, rw c.word-item.is at c.in_ok-lend.ensures.lent);
     }
