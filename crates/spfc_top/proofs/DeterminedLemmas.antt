@@ -1,6 +1,5 @@
 -- One thing is due at most.
-use Rattle.std.proofs.Common.{◌≡◌, ℕ, List, [], ◌∷◌, map, Some, None, Ok, Err, Option, Result, refl, sym, ap, ◌∙◌}
-use Rattle.dns_name.specs.Name.{name_of_text}
+use Rattle.std.proofs.Common.{◌≡◌, ℕ, List, [], ◌∷◌, map, Some, Ok, Err, Option, refl, sym, ap, ◌∙◌}
 use Rattle.zone_answers.specs.Zone.{Zone}
 use Rattle.zone_answers.specs.Answers.{answer_of}
 use Rattle.zone_answers.specs.declared.answer.QKind.TheVariants as kinds

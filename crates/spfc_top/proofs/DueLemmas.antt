@@ -1,5 +1,5 @@
 -- What is due for a job, by what was read.
-use Rattle.std.proofs.Common.{◌≡◌, ◌≤◌, ◌||◌, ℕ, Bool, true, false, List, [], ◌∷◌, Option, Result, Ok, Err, IfOk, IfErr, IsTrue, ap, arith}
+use Rattle.std.proofs.Common.{◌≤◌, ◌||◌, ℕ, Bool, true, false, List, [], ◌∷◌, Option, Result, Ok, Err, IfOk, IfErr, IsTrue, ap, arith}
 use Rattle.zone_answers.specs.Zone.{Zone}
 use Rattle.spf_grammar.specs.declared.flat.FlatTerm.{FlatTerm}
 use Rattle.spfc_words.specs.declared.job.Job.{Job}

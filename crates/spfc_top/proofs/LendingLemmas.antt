@@ -1,8 +1,8 @@
 -- Zone words in order: the word at a place, and what the words before it came to.
-use Rattle.std.proofs.Common.{◌≡◌, ◌<◌, ◌≤◌, ◌+◌, ◌-◌, ◌++◌, ℕ, zero, suc, Bool, true, false, not, List, [], ◌∷◌, map, take, drop, length, get_or, Contains, Option, Some, Result, Ok, Err, IfErr, IsTrue, refl, sym, ◌∙◌, ap, arith, inr, inl, bytes_eq}
+use Rattle.std.proofs.Common.{◌≡◌, ◌<◌, ◌≤◌, ◌+◌, ◌++◌, ℕ, zero, suc, Bool, true, false, not, List, [], ◌∷◌, map, take, drop, length, get_or, Contains, Option, Ok, Err, IsTrue, refl, ap, arith, inr, inl, bytes_eq}
 use Rattle.std.proofs.Math.Seq.{take-suc}
 use Rattle.std.proofs.lemmas.Slice.Eq.{bytes_eq-Decides}
-use Rattle.std.specs.List.{prefix_len, take_while}
+use Rattle.std.specs.List.{prefix_len}
 use Rattle.spfc_outer.specs.Causes.{Rose}
 use Rattle.master_reader.specs.declared.record.Record.{Record}
 use Rattle.zone_answers.specs.Zone.{Zone}

@@ -1,5 +1,5 @@
 -- Records are lent, or refused for one reason that has a line.
-use Rattle.std.proofs.Common.{◌≡◌, ◌≢◌, ◌<◌, ◌≤◌, ℕ, Bool, true, false, List, Some, None, IsTrue, IsFalse, refl, sym, ◌∙◌, ap, arith}
+use Rattle.std.proofs.Common.{◌≡◌, ◌≢◌, ℕ, Bool, List, Some, None, IsTrue, IsFalse, refl, ◌∙◌, ap, arith}
 use Rattle.std.specs.declared.cmp.Ordering.{Ordering}
 use Rattle.std.specs.declared.cmp.Ordering.TheVariants.{Less, Equal, Greater}
 use Rattle.std.specs.Ordering.{nat_cmp, ordering_reverse}
@@ -9,11 +9,9 @@ use Rattle.std.proofs.lemmas.Map.Lookups.{exact_bytes}
 use Rattle.dns_name.specs.Printed.{printed_name}
 use Rattle.master_reader.specs.declared.record.Record.{Record}
 use Rattle.zone_answers.specs.Zone.{Zone}
-use Rattle.zone_answers.specs.Same.{distinct_records}
-use Rattle.zone_answers.specs.Lend.{IsRefused, IsLent, IsLeastClash}
+use Rattle.zone_answers.specs.Lend.{IsRefused, IsLent}
 use Rattle.zone_answers.specs.declared.fault.LendFault.{LendFault}
 use Rattle.zone_answers.specs.declared.fault.LendFault.TheVariants.{SameOrigin, TooMany, AliasAndOther, Memory}
-use Rattle.spfc_top.specs.Lines.{alias_and_other_line}
 use Rattle.spfc_top.specs.Zones.{lend_line}
 
 some_twice : {a b c d : List ℕ} → Some a ≡ Some b → Some c ≡ Some d → a ≡ c → b ≡ d

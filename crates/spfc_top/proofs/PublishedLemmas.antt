@@ -1,5 +1,5 @@
 -- The records and terms of a policy, one after the other.
-use Rattle.std.proofs.Common.{◌≡◌, ◌≢◌, ◌<◌, ◌≤◌, ◌+◌, ◌++◌, ℕ, zero, suc, Bool, List, [], ◌∷◌, map, filter, filter_map, take, length, get_or, Option, Some, None, Ok, Err, Result, IfOk, MatchOption, refl, sym, ◌∙◌, ap, ap₂, arith}
+use Rattle.std.proofs.Common.{◌≡◌, ◌≢◌, ◌<◌, ◌≤◌, ◌+◌, ◌++◌, ℕ, zero, suc, List, [], ◌∷◌, map, filter, filter_map, take, length, get_or, Option, Some, None, Ok, Err, Result, IfOk, MatchOption, refl, sym, ◌∙◌, ap, ap₂, arith}
 use Rattle.std.proofs.Math.Seq.{take-suc}
 use Rattle.std.proofs.lemmas.List.Elements.{filter-append, filter_map-append}
 use Rattle.std.proofs.lemmas.List.{append-nil}
@@ -8,8 +8,6 @@ use Rattle.std.specs.List.{concat}
 use Rattle.master_reader.specs.declared.record.Body.{Body}
 use Rattle.zone_answers.specs.Zone.{Zone}
 use Rattle.zone_answers.specs.Answers.{answer_of}
-use Rattle.zone_answers.specs.declared.answer.Answer.{Answer}
-use Rattle.zone_answers.specs.declared.answer.Answer.TheVariants as answers
 use Rattle.zone_answers.specs.declared.answer.QKind.TheVariants as kinds
 use Rattle.dns_name.specs.Name.{name_of_text}
 use Rattle.dns_name.specs.declared.fault.NameFault.{NameFault}

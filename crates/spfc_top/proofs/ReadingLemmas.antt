@@ -1,5 +1,5 @@
 -- What was read of a file.
-use Rattle.std.proofs.Common.{◌≡◌, ◌<◌, ◌≤◌, ◌+◌, ◌^◌, ◌++◌, ◌⊎◌, ℕ, List, [], ◌∷◌, length, take, Some, Ok, Err, Option, Result, Bool, IfOk, IfErr, IsTrue, refl, sym, ◌∙◌, ap, arith, inl, inr, length-append}
+use Rattle.std.proofs.Common.{◌≡◌, ◌<◌, ◌≤◌, ◌+◌, ◌^◌, ◌++◌, ℕ, List, length, take, Some, Ok, Err, Option, Result, Bool, IfOk, IfErr, IsTrue, refl, sym, ◌∙◌, ap, arith, inl, inr, length-append}
 use Rattle.std.proofs.lemmas.List.{append-nil, append_assoc, take-append-le}
 use Rattle.master_reader.specs.Reading.{Reads}
 use Rattle.master_reader.specs.declared.record.Record.{Record}

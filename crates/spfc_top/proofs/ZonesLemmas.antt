@@ -1,11 +1,10 @@
 -- Zone words in order: what the first ones come to, and what the next one adds.
-use Rattle.std.proofs.Common.{◌≡◌, ◌<◌, ◌≤◌, ◌++◌, ℕ, Bool, not, List, [], ◌∷◌, Option, Some, None, Result, Ok, Err, true, false, refl, sym, ◌∙◌, ap, arith, bytes_eq, if◌then◌else◌}
+use Rattle.std.proofs.Common.{◌≡◌, ◌++◌, ℕ, List, [], ◌∷◌, Option, Some, None, Result, Ok, Err, refl, sym, ◌∙◌, ap, arith}
 use Rattle.master_reader.specs.declared.fault.Kind.{Kind}
 use Rattle.master_reader.specs.declared.record.Record.{Record}
 use Rattle.zone_answers.specs.Zone.{Zone}
-use Rattle.zone_answers.specs.Lend.{with_zone}
 use Rattle.spfc_words.specs.declared.zone_word.ZoneWord.{ZoneWord}
-use Rattle.spfc_top.specs.Zones.{Contents, FileDue, no_file, long_file, bad_zone, read, lend_line, LendDue, refused, lent, Then, WordDue, ZoneWordsDue, words_before}
+use Rattle.spfc_top.specs.Zones.{Contents, FileDue, no_file, long_file, bad_zone, read, LendDue, refused, lent, Then, WordDue, ZoneWordsDue}
 use Rattle.spfc_top.specs.Lines.{bad_zone_line}
 use Rattle.master_reader.proofs.Once.{reads_once, faults_once, reads_not_faults}
 use Rattle.spfc_top.proofs.OneLending.{lend_once, lent_not_refused}

@@ -2,7 +2,6 @@
 use Rattle.std.specs.Prelude.{ℕ, ◌≡◌, ◌<◌, ◌⊎◌, List, [], ◌++◌, length, Some, None, Ok, Err, Result, map, Contains, ⊤, IsTrue, Bool}
 use Rattle.std.specs.declared.option.Option.{Option}
 use Rattle.spfc_outer.specs.Causes.{Rose}
-use Rattle.master_reader.specs.declared.fault.Kind.{Kind}
 use Rattle.master_reader.specs.Readers.{StandsFor, DecidesFault}
 use Rattle.zone_answers.specs.Zone.{Zone}
 use Rattle.zone_answers.specs.declared.fault.LendFault.{LendFault}

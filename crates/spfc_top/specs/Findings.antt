@@ -1,5 +1,5 @@
 -- What is due for a job over told contents: a refusal, or the output.
-use Rattle.std.specs.Prelude.{ℕ, ◌≡◌, Bool, false, List, [], map, Result, Ok, Err, IsOk, codes}
+use Rattle.std.specs.Prelude.{ℕ, ◌≡◌, Bool, false, List, [], map, Result, Ok, Err, IsOk}
 use Rattle.addr_bits.specs.declared.address.Address.{Address}
 use Rattle.dns_name.specs.Name.{name_of_text}
 use Rattle.spf_grammar.specs.declared.flat.FlatTerm.{FlatTerm}

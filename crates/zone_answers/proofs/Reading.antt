@@ -1,5 +1,5 @@
 -- The records of a master file may be lent.
-use Rattle.std.proofs.Common.{◌≡◌, ℕ, ◌+◌, ◌<◌, ◌≤◌, Bool, true, false, ◌||◌, List, [], ◌∷◌, length, map, filter, sum_by, Result, Ok, Err, refl, sym, subst, ◌∙◌, true≢false, arith, nat_lt, if◌then◌else◌, codes}
+use Rattle.std.proofs.Common.{◌≡◌, ℕ, ◌+◌, ◌<◌, ◌≤◌, Bool, true, false, ◌||◌, List, [], ◌∷◌, length, map, filter, sum_by, Result, Ok, Err, refl, sym, subst, true≢false, arith, nat_lt, if◌then◌else◌, codes}
 use Rattle.std.specs.Bool.{MatchBool}
 use Rattle.std.specs.List.{list_any, AllByRecursion}
 use Rattle.std.proofs.lemmas.Bool.{ltb-false}

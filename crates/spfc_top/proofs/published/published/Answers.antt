@@ -1,6 +1,4 @@
-use Rattle.std.proofs.Common.{◌≡◌, ◌∙◌, sym, ap, [], ◌∷◌}
-use Rattle.zone_answers.specs.Answers.{answer_of}
-use Rattle.zone_answers.specs.declared.answer.QKind.TheVariants as kinds
+use Rattle.std.proofs.Common.{◌∙◌, sym, ap}
 use Rattle.spfc_top.specs.Published.{spf_texts}
 use Rattle.spfc_top.proofs.PublishedLemmas.{publishes, one_item}
 use Rattle.spfc_top.proofs.published.published.Goals as goal
