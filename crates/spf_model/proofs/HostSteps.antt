@@ -2,14 +2,12 @@
 use Rattle.std.proofs.Common.{◌≡◌, ℕ, Bool, true, false, ◌||◌, List, [], ◌∷◌, ◌++◌, map, refl, sym, ap, ◌∙◌, subst, append_assoc, append-nil, ◌+◌, ◌<◌, ◌≤◌, length, get_or, drop, drop-cons, add-one, length-drop, arith}
 use Rattle.std.proofs.lemmas.List.{nil_from_length}
 use Rattle.std.specs.List.{list_any}
-use Rattle.addr_bits.specs.declared.address.Address.{Address}
 use Rattle.zone_answers.specs.declared.answer.Answer.{Answer}
 use Rattle.spf_model.specs.declared.outcome.Counts.{Counts}
 use Rattle.spf_model.specs.declared.outcome.Halt.{Halt}
-use Rattle.spf_model.specs.declared.outcome.Halt.TheVariants.{Ended, Memory}
 use Rattle.spf_model.specs.Run.{Run, Answering, EndsWith}
 use Rattle.spf_model.specs.Judging.{Site, Labels, ask, ask_all, address_question, is_void, some_agrees, body_agrees, bodies_of, match_hosts, void_counted}
-use Rattle.spf_model.specs.Leads.{EndsSo, LeadsTo, HandsOn, Halts}
+use Rattle.spf_model.specs.Leads.{LeadsTo, HandsOn, Halts}
 use Rattle.spf_model.proofs.Parts.{halts_through}
 
 -- the questions to these hosts

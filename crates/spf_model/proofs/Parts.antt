@@ -7,7 +7,6 @@ use Rattle.zone_answers.specs.declared.answer.Answer.TheVariants as answer
 use Rattle.zone_answers.specs.declared.answer.Question.{Question}
 use Rattle.spf_macros.specs.declared.piece.Piece.{Piece}
 use Rattle.spf_macros.specs.declared.expansion.Need.{Need}
-use Rattle.spf_macros.specs.declared.expansion.Expanded.{Expanded}
 use Rattle.spf_macros.specs.declared.expansion.Expanded.TheVariants.{Out, Needs}
 use Rattle.spf_macros.specs.Expansion.{target}
 use Rattle.addr_bits.specs.Address.{family_of}

@@ -1,7 +1,5 @@
 -- The record of a name: where it is found, and where the run ends.
-use Rattle.std.proofs.Common.{◌≡◌, ℕ, suc, ◌<◌, ◌≤◌, List, [], ◌∷◌, length, get_or, refl, sym, subst, ap, arith, Option, Some, None, Result, Ok, Err, ◌⊎◌, inl, inr, ◌∙◌, codes}
-use Rattle.std.specs.Prelude.{filter_map}
-use Rattle.master_reader.specs.declared.record.Body.{Body}
+use Rattle.std.proofs.Common.{◌≡◌, ℕ, ◌<◌, ◌≤◌, List, [], ◌∷◌, length, get_or, refl, sym, subst, ap, arith, Option, Some, None, Result, Ok, Err, ◌⊎◌, inl, inr, ◌∙◌, codes}
 use Rattle.zone_answers.specs.declared.answer.QKind.TheVariants as kind
 use Rattle.zone_answers.specs.declared.answer.Answer.{Answer}
 use Rattle.zone_answers.specs.declared.answer.Answer.TheVariants as answer
@@ -16,12 +14,11 @@ use Rattle.spf_model.specs.declared.outcome.Cause.TheVariants as cause
 use Rattle.spf_model.specs.declared.outcome.Counts.{Counts}
 use Rattle.spf_model.specs.declared.outcome.Halt.{Halt}
 use Rattle.spf_model.specs.declared.outcome.Halt.TheVariants.{Ended}
-use Rattle.spf_model.specs.declared.outcome.Outcome.{Outcome}
 use Rattle.spf_model.specs.declared.outcome.Outcome.TheVariants.{Nothing, Perm, Temp, Unsettled}
 use Rattle.spf_model.specs.Run.{Run, Answering, EndsWith}
 use Rattle.spf_model.specs.Judging.{Labels}
-use Rattle.spf_model.specs.Check.{with_texts, with_answer, with_record, spf_text_of}
-use Rattle.spf_model.specs.Leads.{LeadsTo, HandsOn, Halts, IsSettled, TargetFits, MechanismFits, TermFits, TermsFit}
+use Rattle.spf_model.specs.Check.{with_texts, with_answer, with_record}
+use Rattle.spf_model.specs.Leads.{LeadsTo, Halts, IsSettled, TargetFits, MechanismFits, TermFits, TermsFit}
 use Rattle.spf_model.proofs.Parts.{halts_through}
 
 -- what a part hands on is what the whole does that it leads on

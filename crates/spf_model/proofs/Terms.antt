@@ -1,5 +1,5 @@
 -- Trying the terms of a record, one after the other, and what a term's record makes of it.
-use Rattle.std.proofs.Common.{◌≡◌, ℕ, zero, suc, ◌+◌, ◌<◌, ◌≤◌, Bool, true, false, List, [], ◌∷◌, length, get_or, drop, min, refl, sym, subst, ap, arith, Option, Some, None, Result, Ok, Err, ◌∙◌, add-one}
+use Rattle.std.proofs.Common.{◌≡◌, ℕ, zero, suc, ◌+◌, ◌<◌, ◌≤◌, Bool, true, false, List, [], ◌∷◌, length, get_or, drop, refl, sym, subst, ap, arith, Option, Some, None, Result, Ok, Err, add-one}
 use Rattle.std.proofs.Math.Seq.{drop-cons}
 use Rattle.std.proofs.lemmas.Option.{none-some}
 use Rattle.spf_macros.specs.declared.piece.Piece.{Piece}
@@ -13,12 +13,11 @@ use Rattle.spf_model.specs.declared.outcome.Cause.TheVariants as cause
 use Rattle.spf_model.specs.declared.outcome.Counts.{Counts}
 use Rattle.spf_model.specs.declared.outcome.Halt.{Halt}
 use Rattle.spf_model.specs.declared.outcome.Halt.TheVariants.{Ended, Memory}
-use Rattle.spf_model.specs.declared.outcome.Outcome.{Outcome}
 use Rattle.spf_model.specs.declared.outcome.Outcome.TheVariants.{Nothing, Is, Perm, Temp, Unsettled}
 use Rattle.spf_model.specs.Run.{Run, Ends, Answering, EndsWith, then_do}
 use Rattle.spf_model.specs.Judging.{Site, Sub, Labels, Judge, at, judge, judged_by, is_pass, with_verdict, with_domain}
 use Rattle.spf_model.specs.Check.{term_after, unless_matched, trying, tried, redirect_from, default, evaluated, with_record, check}
-use Rattle.spf_model.specs.Leads.{LeadsTo, HandsOn, NoVerdict, Halts, IsJudged, IsTried, IsVerdictOf, TargetFits, TermFits, TermsFit, required_of}
+use Rattle.spf_model.specs.Leads.{LeadsTo, HandsOn, Halts, IsJudged, IsVerdictOf, TargetFits, TermsFit, required_of}
 use Rattle.spf_model.proofs.Parts.{halts_through}
 use Rattle.spf_model.proofs.RunLaws.{ends_after}
 

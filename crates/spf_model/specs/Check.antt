@@ -17,7 +17,6 @@ use Rattle.spf_grammar.specs.declared.policy.Policy.{Policy}
 use Rattle.spf_model.specs.declared.outcome.Limits.{Limits}
 use Rattle.spf_model.specs.declared.outcome.Counts.{Counts}
 use Rattle.spf_model.specs.declared.outcome.Cause.TheVariants as cause
-use Rattle.spf_model.specs.declared.outcome.Outcome.{Outcome}
 use Rattle.spf_model.specs.declared.outcome.Outcome.TheVariants.{Nothing, Is, Perm, Temp, Unsettled}
 use Rattle.spf_model.specs.Run.{Run, Ends, Asks, Reads}
 use Rattle.spf_model.specs.Judging.{Labels, Site, Sub, Judge, with_verdict, judge}

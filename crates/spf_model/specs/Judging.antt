@@ -1,5 +1,5 @@
 -- What a term of a record comes to.
-use Rattle.std.specs.Prelude.{◌≡◌, ℕ, ◌+◌, Bool, true, false, nat_le, List, [], ◌∷◌, ◌||◌, length, map, filter_map, Option, Some, None, Result, Ok, Err}
+use Rattle.std.specs.Prelude.{ℕ, ◌+◌, Bool, true, false, nat_le, List, [], ◌∷◌, ◌||◌, length, map, filter_map, Option, Some, None, Result, Ok, Err}
 use Rattle.std.specs.List.{list_any}
 use Rattle.addr_bits.specs.Prefix.{cidr_of}
 pub use Rattle.addr_bits.specs.Address.{family_of}

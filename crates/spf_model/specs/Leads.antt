@@ -1,5 +1,5 @@
 -- What the parts of an evaluation say of the run that they are a part of. A part is what comes after it, led to a run.
-use Rattle.std.specs.Prelude.{◌≡◌, ℕ, ◌≤◌, IsTrue, List, [], ◌∷◌, Option, Some, None, Result, Ok, Err, MatchResult, MatchOption}
+use Rattle.std.specs.Prelude.{ℕ, ◌≤◌, IsTrue, List, [], ◌∷◌, Option, Some, None, Result, Ok, Err, MatchResult, MatchOption}
 use Rattle.std.specs.List.{list_all}
 use Rattle.spf_macros.specs.declared.piece.Piece.{Piece}
 use Rattle.spf_macros.specs.Grammar.{is_for_all}

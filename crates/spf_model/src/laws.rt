@@ -1,5 +1,5 @@
 //! What holds of every evaluation. The functions do nothing: what they promise is the law.
-ghost use Rattle.spf_model.specs.Laws.{OneEnd, RestsOnItsQuestions};
+ghost use Rattle.spf_model.specs.Laws.{DepthSuffices, OneEnd, RestsOnItsQuestions};
 
 /// An evaluation ends in one way.
 pub fn one_end()
@@ -9,4 +9,9 @@ pub fn one_end()
 /// An evaluation rests on the answers to its own questions alone, and so do its questions.
 pub fn rests_on_its_questions()
     ensures { RestsOnItsQuestions }
+{}
+
+/// Where records may be nested deeper than the lookups that are left, more depth changes nothing.
+pub fn depth_suffices()
+    ensures { DepthSuffices }
 {}

@@ -12,6 +12,6 @@ mod record;
 mod tests;
 
 pub use check::check_one;
-pub use laws::{one_end, rests_on_its_questions};
+pub use laws::{depth_suffices, one_end, rests_on_its_questions};
 pub use lines::write_outcome;
 pub use outcome::{Cause, Counts, Limits, Outcome, Place};

@@ -537,6 +537,7 @@ fn other_limits(rt: HostRuntime) -> Result<(), Fail> {
 
 #[test]
 fn laws() {
+    depth_suffices();
     one_end();
     rests_on_its_questions();
 }

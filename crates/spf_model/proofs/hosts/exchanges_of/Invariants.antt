@@ -1,4 +1,4 @@
-use Rattle.std.proofs.Common.{◌≡◌, take, map, List, ℕ}
+use Rattle.std.proofs.Common.{◌≡◌, take, map}
 use Rattle.std.specs.Prelude.{filter_map}
 use Rattle.spf_model.specs.Judging.{exchange_of}
 use Rattle.spf_model.proofs.hosts.exchanges_of.Given as goal

@@ -1,4 +1,4 @@
-use Rattle.std.proofs.Common.{ap, sym, ◌∙◌}
+use Rattle.std.proofs.Common.{sym, ◌∙◌}
 use Rattle.spf_model.specs.Check.{spf_text_of}
 use Rattle.spf_model.proofs.Collecting.{kept_as_is, passed_as_is}
 use Rattle.spf_model.proofs.record.spf_texts.Goals as goal

@@ -1,4 +1,4 @@
-use Rattle.std.proofs.Common.{◌≡◌, ◌+◌, ◌≤◌, drop, sym, ap, ◌∙◌, List, ℕ, rules, arith}
+use Rattle.std.proofs.Common.{◌+◌, drop, ap, ◌∙◌, List, arith}
 use Rattle.std.proofs.lemmas.Result.{err_from_is_err_and}
 use Rattle.spf_model.specs.Run.{says}
 use Rattle.std.proofs.lemmas.List.{drop_all}

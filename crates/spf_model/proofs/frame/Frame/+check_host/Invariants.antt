@@ -1,4 +1,4 @@
-use Rattle.std.proofs.Common.{ℕ, ◌+◌, ◌-◌, ◌*◌, ◌≤◌, drop}
+use Rattle.std.proofs.Common.{◌+◌, ◌-◌, ◌*◌, ◌≤◌, drop}
 use Rattle.spf_model.specs.Run.{says}
 use Rattle.spf_model.specs.Leads.{site_of, TermsFit}
 use Rattle.spf_model.proofs.Terms.{TriedSoFar}

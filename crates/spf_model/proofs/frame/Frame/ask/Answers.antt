@@ -1,8 +1,4 @@
-use Rattle.std.proofs.Common.{sym, ap, ◌∙◌, refl}
-use Rattle.spf_model.specs.declared.outcome.Place.{Place}
-use Rattle.spf_model.specs.declared.outcome.Cause.TheVariants as cause
-use Rattle.spf_model.specs.declared.outcome.Halt.TheVariants.{Ended}
-use Rattle.spf_model.specs.declared.outcome.Outcome.TheVariants.{Temp}
+use Rattle.std.proofs.Common.{sym, ◌∙◌}
 use Rattle.spf_model.specs.Run.{says}
 use Rattle.spf_model.specs.Leads.{site_of}
 use Rattle.spf_model.proofs.Parts.{outside, round}

@@ -1,4 +1,4 @@
-use Rattle.std.proofs.Common.{◌≡◌, ◌∷◌, [], sym, ◌∙◌, ap, List, ℕ, length, ◌≤◌, subst, arith}
+use Rattle.std.proofs.Common.{sym, ◌∙◌, List, ℕ, length, ◌≤◌, subst, arith}
 use Rattle.std.proofs.lemmas.List.{nil_from_length}
 use Rattle.spf_model.specs.Run.{says}
 use Rattle.spf_model.proofs.Records.{no_text, one_item, many_texts}

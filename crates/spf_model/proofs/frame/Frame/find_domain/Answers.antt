@@ -1,4 +1,4 @@
-use Rattle.std.proofs.Common.{List, ℕ, Some}
+use Rattle.std.proofs.Common.{Some}
 use Rattle.std.proofs.lemmas.Result.{err_from_is_err_and}
 use Rattle.spf_model.specs.declared.outcome.Cause.TheVariants as cause
 use Rattle.spf_model.specs.declared.outcome.Outcome.TheVariants.{Perm}

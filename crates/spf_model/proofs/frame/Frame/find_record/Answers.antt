@@ -1,6 +1,4 @@
-use Rattle.std.proofs.Common.{◌≡◌, ◌≤◌, ◌<◌, length, sym, ap, ◌∙◌, subst, arith, List}
-use Rattle.std.specs.Prelude.{filter_map}
-use Rattle.master_reader.specs.declared.record.Body.{Body}
+use Rattle.std.proofs.Common.{sym, ◌∙◌, arith}
 use Rattle.zone_answers.specs.declared.answer.Answer.TheVariants as answer
 use Rattle.spf_model.specs.Run.{says}
 use Rattle.spf_model.specs.Check.{with_record, with_answer}

@@ -1,9 +1,9 @@
-use Rattle.std.proofs.Common.{option_map, Some, [], ◌∷◌, false}
+use Rattle.std.proofs.Common.{option_map}
 use Rattle.std.proofs.lemmas.Result.{err_from_is_err_and}
 use Rattle.zone_answers.specs.declared.answer.QKind.TheVariants as kind
-use Rattle.spf_grammar.specs.declared.policy.Mechanism.TheVariants.{A, Mx, Exists}
+use Rattle.spf_grammar.specs.declared.policy.Mechanism.TheVariants.{Mx}
 use Rattle.spf_model.specs.Run.{says}
-use Rattle.spf_model.specs.Judging.{judge, with_host, match_hosts, match_exchanges, ask, void_counted, is_void, is_found}
+use Rattle.spf_model.specs.Judging.{judge, with_host, match_exchanges, ask}
 use Rattle.spf_model.specs.Leads.{site_of}
 use Rattle.spf_model.proofs.Parts.{halts_through, judged_through}
 use Rattle.spf_model.proofs.frame.Frame.match_mx.Goals as goal
