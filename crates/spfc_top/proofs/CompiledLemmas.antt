@@ -58,7 +58,7 @@ too_big_stops want zones others list rows4 rows6 sum stop.Memory h = tt
 pub taken_stops : (want : Wanted) (zones : List Zone) (others : ℕ) (list : List FlatTerm) (rows4 rows6 : List NeedRow) (sum : ℕ) (ends : List ℕ) (s : Stop) → IsChosenCut want others list ends → IsTakenStop want zones (length ends) s →
     StopsList want zones others list rows4 rows6 sum s
 taken_stops want zones others list rows4 rows6 sum ends (stop.Refusal status line) chosen h =
-    (h.0, taken ends h.1.1.0 chosen h.1.1.1.0 (ap (λ (n : ℕ). Refuses n line) h.1.0 ∙ ap (λ (l : List ℕ). Refuses 1 l) h.1.1.1.1))
+    (h.0, taken ends h.1.1 chosen h.1.2 (ap (λ (n : ℕ). Refuses n line) h.1.0 ∙ ap (λ (l : List ℕ). Refuses 1 l) h.1.3))
 taken_stops want zones others list rows4 rows6 sum ends (stop.ReadFault line) chosen h = h
 taken_stops want zones others list rows4 rows6 sum ends stop.Memory chosen h = tt
 

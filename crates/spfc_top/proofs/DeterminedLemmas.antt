@@ -53,16 +53,16 @@ one_rest : (want : Wanted) (others : ℕ) (list : List FlatTerm) (k from : ℕ) 
 one_rest want others list k from [] [] same ra rb fa fb ma mb = refl
 one_rest want others list k from [] (y ∷ b) same ra rb fa fb ma mb = absurd (omega (arith, same))
 one_rest want others list k from (x ∷ a) [] same ra rb fa fb ma mb = absurd (omega (arith, same))
-one_rest want others list k from (x ∷ []) (y ∷ []) same ra rb fa fb ma mb = ap (λ (n : ℕ). n ∷ []) (ra.1.1 ∙ sym rb.1.1)
+one_rest want others list k from (x ∷ []) (y ∷ []) same ra rb fa fb ma mb = ap (λ (n : ℕ). n ∷ []) (ra.2 ∙ sym rb.2)
 one_rest want others list k from (x ∷ []) (y ∷ q ∷ b) same ra rb fa fb ma mb = absurd (omega (arith, same))
 one_rest want others list k from (x ∷ p ∷ a) (y ∷ []) same ra rb fa fb ma mb = absurd (omega (arith, same))
 one_rest want others list k from (x ∷ p ∷ a) (y ∷ q ∷ b) same ra rb fa fb ma mb =
-    let not_below : x < y → ⊥ = λ lt. ma.0 y lt rb.1.0 fb.0 in
-    let not_above : y < x → ⊥ = λ lt. mb.0 x lt ra.1.0 fa.0 in
+    let not_below : x < y → ⊥ = λ lt. ma.0 y lt rb.1 fb.0 in
+    let not_above : y < x → ⊥ = λ lt. mb.0 x lt ra.1 fa.0 in
     let first : x ≡ y = omega arith in
     ap₂ (λ (n : ℕ) (ns : List ℕ). n ∷ ns) first
     (one_rest want others list (k + 1) y (p ∷ a) (q ∷ b) (omega (arith, same))
-    (subst (λ (n : ℕ). RiseTo n (length list) (p ∷ a)) first ra.1.1) rb.1.1
+    (subst (λ (n : ℕ). RiseTo n (length list) (p ∷ a)) first ra.2) rb.2
     (subst (λ (n : ℕ). RecordsFit want.domain want.label want.size others list (k + 1) n (p ∷ a)) first fa.1) fb.1
     (subst (λ (n : ℕ). TakeMost want.domain want.label want.size others list (k + 1) n (p ∷ a)) first ma.1) mb.1)
 
@@ -77,8 +77,8 @@ not_both b f t = cc
 
 one_first : (want : Wanted) (zones : List Zone) (records j k : ℕ) → IsFirstTaken want zones records j → IsFirstTaken want zones records k → j ≡ k
 one_first want zones records j k x y =
-    let not_below : j < k → ⊥ = λ lt. not_both _ (y.first j x.behind lt) x.taken in
-    let not_above : k < j → ⊥ = λ lt. not_both _ (x.first k y.behind lt) y.taken in
+    let not_below : j < k → ⊥ = λ lt. not_both _ (y.none_before j x.behind lt) x.taken in
+    let not_above : k < j → ⊥ = λ lt. not_both _ (x.none_before k y.behind lt) y.taken in
     omega arith
 
 none_first : (want : Wanted) (zones : List Zone) (records k : ℕ) → AreFree want zones records → IsFirstTaken want zones records k → ⊥

@@ -83,7 +83,7 @@ best_of_policy want zones bytes (published terms has due) = (terms, has, shortes
 best_of_job : (job : Job) (held : Contents) (bytes : List ℕ) → IsDue job held (Gives bytes) → IsBest job held bytes
 best_of_job (Compile domain size ttl label words) held bytes (Ok zones, are, due) =
     let best = best_of_policy (wanted domain size ttl label) zones bytes due in
-    (zones, best.0, are, best.1.0, best.1.1)
+    (zones, best.0, are, best.1, best.2)
 best_of_job (Compile domain size ttl label words) held bytes (Err line, are, due) = absurd (refuses_not due)
 best_of_job (Check domain address limits words) held bytes (Ok zones, are, (outcome, gives, is)) = (zones, outcome, are, gives, gives_same is)
 best_of_job (Check domain address limits words) held bytes (Err line, are, due) = absurd (refuses_not due)

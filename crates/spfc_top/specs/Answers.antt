@@ -108,4 +108,4 @@ IsTooBig want others list = StopsBy (λ status line. (status ≡ 2) × (line ≡
 -- the name of a record is taken, of so many
 abbrev pub IsTakenStop : Wanted → List Zone → (records : ℕ) → Stop → Type 0
 IsTakenStop want zones records =
-    StopsBy (λ status line. (status ≡ 1) × ((k : ℕ) × IsFirstTaken want zones records k × (line ≡ taken_line k (needed_name want k)))) (λ line. ⊥)
+    StopsBy (λ status line. (status ≡ 1) × (k : ℕ) × IsFirstTaken want zones records k × (line ≡ taken_line k (needed_name want k))) (λ line. ⊥)

@@ -64,7 +64,7 @@ pub record IsFirstTaken (want : Wanted) (zones : List Zone) (records k : ℕ) : 
   pub behind : 1 ≤ k
   pub within : k < records
   pub taken : IsTrue (is_needed_taken want zones k)
-  pub first : (j : ℕ) → 1 ≤ j → j < k → IsFalse (is_needed_taken want zones j)
+  pub none_before : (j : ℕ) → 1 ≤ j → j < k → IsFalse (is_needed_taken want zones j)
 
 -- the names of the records behind the one at the domain are free
 abbrev pub AreFree : Wanted → List Zone → (records : ℕ) → Type 0

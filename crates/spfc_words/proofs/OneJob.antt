@@ -26,7 +26,7 @@ one_compile (word ∷ words) d e s t u v l m zs us x y =
     let domain : d ≡ e = x.lower ∙ sym y.lower in
     let chain = one_chain (settings_in is_chain_option words) s t u v l m x.options y.options in
     let zones : zs ≡ us = one_zones _ zs us x.behind.each y.behind.each in
-    λ i. Compile (domain i) (chain.0 i) (chain.1.0 i) (chain.1.1 i) (zones i)
+    λ i. Compile (domain i) (chain.0 i) (chain.1 i) (chain.2 i) (zones i)
 
 one_check : (words : List (List ℕ)) (d e : List ℕ) (a b : Address) (l m : Limits) (zs us : List ZoneWord) → SpellsCheck words d a l zs → SpellsCheck words e b m us → Check d a l zs ≡ Check e b m us
 one_check [] d e a b l m zs us x y = absurd x

@@ -1,5 +1,5 @@
 -- Options in a row, and their numbers.
-use Rattle.std.proofs.Common.{◌≡◌, ◌↔◌, ℕ, ◌-◌, Bool, true, false, true≢false, codes, String, string_bytes, bytes_eq, length, take, drop, get_or, ap₂, ◌<◌, ◌≤◌, ◌^◌, List, [], ◌∷◌, Option, Some, None, Result, refl, sym, ap, ◌∙◌, subst, arith, lit≤}
+use Rattle.std.proofs.Common.{◌++◌, option_map, MatchOption, ◌≡◌, ◌↔◌, ℕ, ◌-◌, Bool, true, false, true≢false, codes, String, string_bytes, bytes_eq, length, take, drop, get_or, ap₂, ◌<◌, ◌≤◌, ◌^◌, List, [], ◌∷◌, Option, Some, None, Result, refl, sym, ap, ◌∙◌, subst, arith, lit≤}
 use Rattle.std.specs.Result.{result_ok}
 use Rattle.std.specs.Str.Parse.{ParsesUnsigned}
 use Rattle.std.proofs.lemmas.Fmt.{parse-decimal, decimal_injective}
@@ -30,6 +30,11 @@ abbrev pub as_list : Option (List ℕ) → List (List ℕ)
 as_list None = []
 as_list (Some value) = value ∷ []
 
+-- what was found is all, where nothing is left
+pub found_all : {A : Type 0} (text : A → List ℕ) (found : Option A) (values : List (List ℕ)) → values ≡ as_list (option_map text found) ++ [] → MatchOption found (values ≡ []) (λ value. values ≡ text value ∷ [])
+found_all text None values all = all
+found_all text (Some value) values all = all
+
 pub several : {A : Type 0} (Spells : List ℕ → A → Type 0) (by_default : A) (values : List (List ℕ)) → 2 ≤ length values → (a : A) → ¬ IsOption Spells by_default values a
 several Spells by_default [] long a is = omega (arith, long)
 several Spells by_default (value ∷ []) long a is = omega (arith, long)
@@ -56,8 +61,8 @@ one_limits settings a b x y =
 
 pub one_chain : (settings : List Setting) (s t u v : ℕ) (l m : List ℕ) → AreChainOptions settings s u l → AreChainOptions settings t v m → (s ≡ t) × (u ≡ v) × (l ≡ m)
 one_chain settings s t u v l m x y =
-    (one_value 64 4096 450 _ s t (lit≤ tt) x.size y.size, one_value 0 2147483647 3600 _ u v (lit≤ tt) x.ttl y.ttl,
-    one_option IsLabelText one_label (codes "_spf") _ l m x.label y.label)
+    (one_value 64 4096 450 _ s t (lit≤ tt) x.sized y.sized, one_value 0 2147483647 3600 _ u v (lit≤ tt) x.lasting y.lasting,
+    one_option IsLabelText one_label (codes "_spf") _ l m x.labelled y.labelled)
 
 -- ---- words in a row
 pub short_behind : (is_option : List ℕ → Bool) (words : List (String Global)) → length words < 2 → words_behind is_option (texts words) ≡ texts words

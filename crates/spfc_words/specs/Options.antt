@@ -68,6 +68,6 @@ pub record IsLabelText (text label : List ℕ) : Type 0 where
 -- what a record may take, in octets and plus one (450 after the guideline of RFC 7208, section 3.4); the TTL of the
 -- records, in seconds (RFC 2181, section 8); and what the names of the records behind the first begin with
 pub record AreChainOptions (settings : List Setting) (size ttl : ℕ) (label : List ℕ) : Type 0 where
-  pub size : IsOption (IsNumber 64 4096) 450 (values_of (codes "--size") settings) size
-  pub ttl : IsOption (IsNumber 0 2147483647) 3600 (values_of (codes "--ttl") settings) ttl
-  pub label : IsOption IsLabelText (codes "_spf") (values_of (codes "--label") settings) label
+  pub sized : IsOption (IsNumber 64 4096) 450 (values_of (codes "--size") settings) size
+  pub lasting : IsOption (IsNumber 0 2147483647) 3600 (values_of (codes "--ttl") settings) ttl
+  pub labelled : IsOption IsLabelText (codes "_spf") (values_of (codes "--label") settings) label

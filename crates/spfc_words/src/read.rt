@@ -1,7 +1,7 @@
 //! Reading the words.
 ghost use Rattle.std.specs.Prelude.{◌≡◌, ◌∷◌, codes, IfOk, IfSome, IfNone, MatchOption};
 ghost use Rattle.spfc_words.specs.declared.job.Job.{Job};
-ghost use Rattle.spfc_words.specs.Words.{texts, Spells};
+ghost use Rattle.spfc_words.specs.Words.{texts, has_room, Spells};
 
 use crate::Job;
 use crate::options::{ChainOptions, Group, behind_options, lowercase, read_chain, read_limits};
@@ -48,7 +48,7 @@ fn read_compile(alloc: Global, words: &[String]) -> Result<Option<Job>, AllocErr
         return Ok(None);
     };
     let domain = lowercase(alloc, domain)?;
-    if label.len() + LAST_NUMBER.len() + domain.len() > MAX_NAME {
+    if !has_room(label.as_slice(), domain.as_slice()) {
         return Ok(None);
     }
     let Some(zones) = read_zones(alloc, behind_options(Group::Chain, rest))? else {
@@ -61,6 +61,16 @@ fn read_compile(alloc: Global, words: &[String]) -> Result<Option<Job>, AllocErr
         label,
         zones,
     }))
+}
+
+// Whether the last name of a chain of records is no longer than a name may be.
+fn has_room(label: &[u8], domain: &[u8]) -> bool
+    ensures { result ≡ has_room label.now domain.now }
+{
+    if label.len() > MAX_NAME || domain.len() > MAX_NAME {
+        return false;
+    }
+    label.len() + LAST_NUMBER.len() + domain.len() <= MAX_NAME
 }
 
 // The job of a domain, an address, reading options and zone words, which stand behind `check`.
