@@ -1,5 +1,5 @@
 -- Options in a row, and their numbers.
-use Rattle.std.proofs.Common.{◌++◌, option_map, MatchOption, ◌≡◌, ◌↔◌, ℕ, ◌-◌, Bool, true, false, true≢false, codes, String, string_bytes, bytes_eq, length, take, drop, get_or, ap₂, ◌<◌, ◌≤◌, ◌^◌, List, [], ◌∷◌, Option, Some, None, Result, refl, sym, ap, ◌∙◌, subst, arith, lit≤}
+use Rattle.std.proofs.Common.{◌++◌, option_map, MatchOption, ◌≡◌, ℕ, ◌-◌, Bool, true, false, codes, String, string_bytes, bytes_eq, length, take, drop, get_or, ap₂, ◌<◌, ◌≤◌, ◌^◌, List, [], ◌∷◌, Option, Some, None, Result, refl, sym, ap, ◌∙◌, arith, lit≤}
 use Rattle.std.specs.Result.{result_ok}
 use Rattle.std.specs.Str.Parse.{ParsesUnsigned}
 use Rattle.std.proofs.lemmas.Fmt.{parse-decimal, decimal_injective}
@@ -60,9 +60,11 @@ one_limits settings a b x y =
     λ i. record { lookups = l i; voids = v i; exchanges = e i }
 
 pub one_chain : (settings : List Setting) (s t u v : ℕ) (l m : List ℕ) → AreChainOptions settings s u l → AreChainOptions settings t v m → (s ≡ t) × (u ≡ v) × (l ≡ m)
-one_chain settings s t u v l m x y =
-    (one_value 64 4096 450 _ s t (lit≤ tt) x.sized y.sized, one_value 0 2147483647 3600 _ u v (lit≤ tt) x.lasting y.lasting,
-    one_option IsLabelText one_label (codes "_spf") _ l m x.labelled y.labelled)
+one_chain settings s t u v l m x y = (
+  one_value 64 4096 450 _ s t (lit≤ tt) x.sized y.sized,
+  one_value 0 2147483647 3600 _ u v (lit≤ tt) x.lasting y.lasting,
+  one_option IsLabelText one_label (codes "_spf") _ l m x.labelled y.labelled,
+)
 
 -- ---- words in a row
 pub short_behind : (is_option : List ℕ → Bool) (words : List (String Global)) → length words < 2 → words_behind is_option (texts words) ≡ texts words

@@ -1,6 +1,6 @@
 -- Options, which stand in front of the zone words. Their form is the project's own choice.
 use Rattle.std.specs.Prelude.{◌≡◌, ℕ, ◌≤◌, Bool, ◌||◌, List, [], ◌∷◌, codes, decimal, bytes_eq, if◌then◌else◌}
-use Rattle.std.specs.Prelude.{IsTrue, ◌+◌, length, nat_le}
+use Rattle.std.specs.Prelude.{IsTrue}
 use Rattle.std.specs.Str.{str_to_ascii_lowercase}
 use Rattle.spf_macros.specs.Words.{is_label}
 use Rattle.spf_model.specs.declared.outcome.Limits.{Limits}

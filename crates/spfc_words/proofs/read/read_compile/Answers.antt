@@ -15,7 +15,9 @@ pub returns-in_default-3 : goal.returns-in_default-3
 returns-in_default-3 c = no_zones c.args.words.now c.in-len1-up.len_at_least (rw c.behind_options.ensures at (rw c.in_default-3.is at c.in_ok-zones.ensures))
 
 pub returns : goal.returns
-returns c =
-    (refl, compiles c.args.words.now c.domain-item.result _ _ _ _ _ c.in-len1-up.len_at_least c.domain-item.is
-    (search rules) (c.in_ok-domain.ensures ∙ ap str_to_ascii_lowercase c.as_bytes-domain.ensures.value) (rw c.in-Some.is at c.in_ok-size.ensures)
-    (search rules) (rw c.behind_options.ensures at (rw c.in-Some-2.is at c.in_ok-zones.ensures)))
+returns c = (
+  refl,
+  compiles c.args.words.now c.domain-item.result _ _ _ _ _ c.in-len1-up.len_at_least c.domain-item.is
+      (search rules) (c.in_ok-domain.ensures ∙ ap str_to_ascii_lowercase c.as_bytes-domain.ensures.value) (rw c.in-Some.is at c.in_ok-size.ensures)
+      (search rules) (rw c.behind_options.ensures at (rw c.in-Some-2.is at c.in_ok-zones.ensures)),
+)
