@@ -63,9 +63,6 @@ taken_stops want zones others list rows4 rows6 sum ends (stop.ReadFault line) ch
 taken_stops want zones others list rows4 rows6 sum ends stop.Memory chosen h = tt
 
 -- ---- names that are taken
-not_one : {b : Bool} → b ≡ false → IsFalse b
-not_one e = rw e tt
-
 -- one more name is free
 pub free_more : (want : Wanted) (zones : List Zone) (n : ℕ) → ((j : ℕ) → 1 ≤ j → j < n → IsFalse (is_needed_taken want zones j)) → is_needed_taken want zones n ≡ false → (j : ℕ) → 1 ≤ j → j < n + 1 → IsFalse (is_needed_taken want zones j)
 free_more want zones n free last j behind below = by (nat_lt j n) refl
@@ -75,4 +72,4 @@ free_more want zones n free last j behind below = by (nat_lt j n) refl
     by false e =
         let at_least : n ≤ j = ltb-false j n e in
         let same : n ≡ j = omega (arith, at_least, below) in
-        not_one (subst (λ (k : ℕ). is_needed_taken want zones k ≡ false) same last)
+        subst (λ (k : ℕ). is_needed_taken want zones k ≡ false) same last

@@ -24,8 +24,8 @@ pub(crate) fn compile<F: Files>(
     words: &[ZoneWord],
 ) -> Result<Bytes, Stop>
     ensures later { F.faults files.old ≤ F.faults files.new }
-    ensures done { IsTrue (F.told files.old) → IfOk result (λ bytes. ZonesDue (F.held files.old) words.now (PolicyDue (wanted_by form)) (Gives bytes)) }
-    ensures stops { IfErr result (StopsBy (λ status line. IsTrue (F.told files.old) → ZonesDue (F.held files.old) words.now (PolicyDue (wanted_by form)) (Refuses status line))
+    ensures done { IsTrue (F.told files.old) → IfOk result (λ bytes. ZonesDue (F.held files.old) words.now (PolicyDue (wanted_by form.entry)) (Gives bytes)) }
+    ensures stops { IfErr result (StopsBy (λ status line. IsTrue (F.told files.old) → ZonesDue (F.held files.old) words.now (PolicyDue (wanted_by form.entry)) (Refuses status line))
         (FaultAmong (F.told files.old) (F.held files.old) words.now (F.faults files.old) (F.faults files.new) (F.last_fault files.new))) }
     ensures never_fails { IsTrue (F.is_assured files.old) → IfErr result IsNoFault }
 {
@@ -35,8 +35,8 @@ pub(crate) fn compile<F: Files>(
 
 // The fragment for the domain over these zones.
 fn write_policy(alloc: Global, zones: &Zones, form: Form<'_>) -> Result<Bytes, Stop>
-    ensures done { IfOk result (λ bytes. PolicyDue (wanted_by form) zones.now (Gives bytes)) }
-    ensures stops { IfErr result (StopsBy (λ status line. PolicyDue (wanted_by form) zones.now (Refuses status line)) (λ line. ⊥)) }
+    ensures done { IfOk result (λ bytes. PolicyDue (wanted_by form.entry) zones.now (Gives bytes)) }
+    ensures stops { IfErr result (StopsBy (λ status line. PolicyDue (wanted_by form.entry) zones.now (Refuses status line)) (λ line. ⊥)) }
 {
     let Ok(name) = Name::from_text(form.domain) else {
         return Err(refusal(alloc, "not yet ", form.domain)?);

@@ -20,8 +20,8 @@ pub(crate) fn refuse_taken(
     form: Form<'_>,
     records: usize,
 ) -> Result<(), Stop>
-    ensures free { IfOk result (λ _. AreFree (wanted_by form) zones.now records) }
-    ensures stops { IfErr result (IsTakenStop (wanted_by form) zones.now records) }
+    ensures free { IfOk result (λ _. AreFree (wanted_by form.entry) zones.now records) }
+    ensures stops { IfErr result (IsTakenStop (wanted_by form.entry) zones.now records) }
 {
     for number in 1..records {
         let name = write_name(alloc, form, number)?;
@@ -36,7 +36,7 @@ pub(crate) fn refuse_taken(
 // The name of a record behind the first.
 fn write_name(alloc: Global, form: Form<'_>, number: usize) -> Result<Bytes, AllocError>
     requires { 1 ≤ number }
-    ensures { IfOk result (λ name. name ≡ needed_name (wanted_by form) number) }
+    ensures { IfOk result (λ name. name ≡ needed_name (wanted_by form.entry) number) }
 {
     let mut name = Bytes::new(alloc);
     name.extend_from_slice(form.label)?;

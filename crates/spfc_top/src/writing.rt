@@ -27,8 +27,8 @@ pub(crate) fn write_terms(
     form: Form<'_>,
     terms: &[FlatTerm],
 ) -> Result<Bytes, Stop>
-    ensures done { IfOk result (λ bytes. TermsDue (wanted_by form) zones.now name.now terms.now (Gives bytes)) }
-    ensures stops { IfErr result (StopsTerms (wanted_by form) zones.now name.now terms.now) }
+    ensures done { IfOk result (λ bytes. TermsDue (wanted_by form.entry) zones.now name.now terms.now (Gives bytes)) }
+    ensures stops { IfErr result (StopsTerms (wanted_by form.entry) zones.now name.now terms.now) }
 {
     if zones.own_alias(name) {
         let line = line(alloc, "refused alias ", form.domain)?;
@@ -47,8 +47,8 @@ fn write_shortest(
     others: u64,
     found: &Shortest,
 ) -> Result<Bytes, Stop>
-    ensures done { IfOk result (λ bytes. ListDue (wanted_by form) zones.now others found.now.list found.now.rows4 found.now.rows6 found.now.total (Gives bytes)) }
-    ensures stops { IfErr result (StopsList (wanted_by form) zones.now others found.now.list found.now.rows4 found.now.rows6 found.now.total) }
+    ensures done { IfOk result (λ bytes. ListDue (wanted_by form.entry) zones.now others found.now.list found.now.rows4 found.now.rows6 found.now.total (Gives bytes)) }
+    ensures stops { IfErr result (StopsList (wanted_by form.entry) zones.now others found.now.list found.now.rows4 found.now.rows6 found.now.total) }
 {
     let cut = cut_list(alloc, form, others, found.list.as_slice())?;
     refuse_taken(alloc, zones, form, cut.ends.len())?;
@@ -58,8 +58,8 @@ fn write_shortest(
 
 // The chosen cut of the list.
 fn cut_list(alloc: Global, form: Form<'_>, others: u64, list: &[FlatTerm]) -> Result<Cut, Stop>
-    ensures chosen { IfOk result (λ cut. IsChosenCut (wanted_by form) others list.now cut.ends) }
-    ensures stops { IfErr result (IsTooBig (wanted_by form) others list.now) }
+    ensures chosen { IfOk result (λ cut. IsChosenCut (wanted_by form.entry) others list.now cut.ends) }
+    ensures stops { IfErr result (IsTooBig (wanted_by form.entry) others list.now) }
 {
     match pack(alloc, list, form.domain, form.label, form.size, others) {
         Ok(cut) => Ok(cut),
