@@ -195,7 +195,10 @@ const SMALL: [&str; 5] = ["compile", "example.com", "--size", "64", "example.com
 const REFUSALS: [Refusal<'static>; 17] = [
     Refusal {
         words: &WORDS,
-        files: &[(b"z", b"@ CNAME a.b\n*.b CNAME www\nwww TXT \"v=spf1 +all\"\n")],
+        files: &[(
+            b"z",
+            b"@ CNAME a.b\n*.b CNAME www\nwww TXT \"v=spf1 +all\"\n",
+        )],
         status: 1,
         line: b"refused alias example.com\n",
     },
@@ -212,14 +215,24 @@ const REFUSALS: [Refusal<'static>; 17] = [
         line: b"refused taken 1 _spf1.example.com\n",
     },
     Refusal {
-        words: &["compile", "example.com", "--size", "64", "example.com=z", "_spf1.example.com=y"],
+        words: &[
+            "compile",
+            "example.com",
+            "--size",
+            "64",
+            "example.com=z",
+            "_spf1.example.com=y",
+        ],
         files: &[(b"z", TWO_NETS), (b"y", b"")],
         status: 1,
         line: b"refused taken 1 _spf1.example.com\n",
     },
     Refusal {
         words: &SMALL,
-        files: &[(b"z", b"@ TXT \"v=spf1 ip4:10.0.0.0/8 ip4:192.0.2.0/24 -all\"\n@ TXT \"verify=0123456789abc\"\n_spf1 TXT \"old\"\n")],
+        files: &[(
+            b"z",
+            b"@ TXT \"v=spf1 ip4:10.0.0.0/8 ip4:192.0.2.0/24 -all\"\n@ TXT \"verify=0123456789abc\"\n_spf1 TXT \"old\"\n",
+        )],
         status: 2,
         line: b"too big\n",
     },
@@ -494,9 +507,15 @@ fn many_records_are_written(rt: HostRuntime) -> Result<(), Fail> {
     assert_eq!(rt; run(alloc, &small, &mut files, &mut out, &mut err), 2);
     assert_eq!(rt; err.bytes(), b"too big\n".as_slice());
 
-    let large = words(alloc, &["compile", "example.com", "--size", "1024", "example.com=z"])?;
+    let large = words(
+        alloc,
+        &["compile", "example.com", "--size", "1024", "example.com=z"],
+    )?;
     assert_eq!(rt; run(alloc, &large, &mut files, &mut out, &mut err), 0);
-    let records = out.bytes().split(|byte| *byte == b'\n').filter(|line| line.starts_with(b"_spf"));
+    let records = out
+        .bytes()
+        .split(|byte| *byte == b'\n')
+        .filter(|line| line.starts_with(b"_spf"));
     assert_eq!(rt; records.count(), 4);
     assert!(rt; out.bytes().ends_with(b"\n; fewest 214\n"));
     Ok(())
