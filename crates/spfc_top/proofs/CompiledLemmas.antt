@@ -1,5 +1,6 @@
 -- What is due for terms, by the list that was found.
-use Rattle.std.proofs.Common.{◌≡◌, ◌<◌, ◌^◌, ℕ, List, Some, Result, Ok, Err, IfOk, IfErr, ap, ◌∙◌}
+use Rattle.std.proofs.Common.{◌≡◌, ◌<◌, ◌≤◌, ◌+◌, ◌^◌, ℕ, Bool, true, false, IsFalse, nat_lt, List, length, Some, Result, Ok, Err, IfOk, IfErr, refl, ap, ◌∙◌, subst, arith}
+use Rattle.std.proofs.lemmas.Bool.{ltb-true, ltb-false}
 use Rattle.addr_bits.specs.Prefix.{Cidr}
 use Rattle.addr_bits.specs.declared.address.Address.TheVariants.{V4, V6}
 use Rattle.prefix_trie.specs.Leaves.{value_at}
@@ -14,8 +15,10 @@ use Rattle.fewest_terms.specs.Leaves.{or_neutral, verdict_at}
 use Rattle.spfc_top.specs.declared.stop.Stop.{Stop}
 use Rattle.spfc_top.specs.declared.stop.Stop.TheVariants as stop
 use Rattle.spfc_top.specs.Due.{Refuses, Gives}
-use Rattle.spfc_top.specs.Compiled.{FitsAlone, fragment_of_one, AreVerdicts, TermsDue, too_big, written}
-use Rattle.spfc_top.specs.Answers.{StopsTerms, IsTooBig}
+use Rattle.zone_answers.specs.Zone.{Zone}
+use Rattle.zone_answers.specs.Names.{has_own_alias, other_text_of}
+use Rattle.spfc_top.specs.Compiled.{Wanted, AreVerdicts, IsChosenCut, is_needed_taken, ListDue, too_big, taken, TermsDue, packed}
+use Rattle.spfc_top.specs.Answers.{StopsTerms, StopsList, IsTooBig, IsTakenStop}
 
 -- tries that have the verdicts of the terms
 pub tries_verdicts : (terms : List FlatTerm) (leaves4 leaves6 : List (Cidr × Verdict)) → ((a : ℕ) → a < 2 ^ 32 → value_at 32 leaves4 a ≡ Some (first terms (V4 a))) →
@@ -29,17 +32,44 @@ pub record IsChosen (v4 v6 : ℕ → Verdict) (list : List FlatTerm) (rows4 rows
   pub rows6_are : rows6 ≡ need_rows 128 v6 128 0
   pub sum_is : sum ≡ total v4 v6
 
-pub chosen_due : (domain : List ℕ) (terms : List FlatTerm) (v4 v6 : ℕ → Verdict) (list : List FlatTerm) (rows4 rows6 : List NeedRow) (sum : ℕ) (r : Result (List ℕ) Stop) →
-    AreVerdicts terms v4 v6 → IsChosen v4 v6 list rows4 rows6 sum → IfOk r (λ _. FitsAlone domain list) → IfOk r (λ bytes. bytes ≡ fragment_of_one domain list rows4 rows6 sum) →
-    IfOk r (λ bytes. TermsDue domain terms (Gives bytes))
-chosen_due domain terms v4 v6 list rows4 rows6 sum (Err e) are is fits says = tt
-chosen_due domain terms v4 v6 list rows4 rows6 sum (Ok bytes) are is fits says =
-    written v4 v6 are (rw is.list_is at fits) (ap (λ (b : List ℕ). Gives b) (rw (is.list_is, is.rows4_are, is.rows6_are, is.sum_is) at says))
+-- ---- from the list to the terms
+pub list_due : (want : Wanted) (zones : List Zone) (name : List (List ℕ)) (terms : List FlatTerm) (v4 v6 : ℕ → Verdict) (list : List FlatTerm) (rows4 rows6 : List NeedRow) (sum : ℕ) (r : Result (List ℕ) Stop) →
+    IsFalse (has_own_alias zones name) → AreVerdicts terms v4 v6 → IsChosen v4 v6 list rows4 rows6 sum →
+    IfOk r (λ bytes. ListDue want zones (other_text_of zones name) list rows4 rows6 sum (Gives bytes)) → IfOk r (λ bytes. TermsDue want zones name terms (Gives bytes))
+list_due want zones name terms v4 v6 list rows4 rows6 sum (Err e) own are is due = tt
+list_due want zones name terms v4 v6 list rows4 rows6 sum (Ok bytes) own are is due = packed v4 v6 own are (rw (is.list_is, is.rows4_are, is.rows6_are, is.sum_is) at due)
 
-pub chosen_stops : (domain : List ℕ) (terms : List FlatTerm) (v4 v6 : ℕ → Verdict) (list : List FlatTerm) (r : Result (List ℕ) Stop) →
-    AreVerdicts terms v4 v6 → list ≡ chosen_list v4 v6 → IfErr r (IsTooBig domain list) → IfErr r (StopsTerms domain terms)
-chosen_stops domain terms v4 v6 list (Ok bytes) are is h = tt
-chosen_stops domain terms v4 v6 list (Err (stop.Refusal status line)) are is h =
-    (h.0, too_big v4 v6 are (rw is at h.1.2) (ap (λ (s : ℕ). Refuses s line) h.1.0 ∙ ap (λ (l : List ℕ). Refuses 2 l) h.1.1))
-chosen_stops domain terms v4 v6 list (Err (stop.ReadFault line)) are is h = absurd h
-chosen_stops domain terms v4 v6 list (Err stop.Memory) are is h = tt
+pub list_stops : (want : Wanted) (zones : List Zone) (name : List (List ℕ)) (terms : List FlatTerm) (v4 v6 : ℕ → Verdict) (list : List FlatTerm) (rows4 rows6 : List NeedRow) (sum : ℕ) (r : Result (List ℕ) Stop) →
+    IsFalse (has_own_alias zones name) → AreVerdicts terms v4 v6 → IsChosen v4 v6 list rows4 rows6 sum →
+    IfErr r (StopsList want zones (other_text_of zones name) list rows4 rows6 sum) → IfErr r (StopsTerms want zones name terms)
+list_stops want zones name terms v4 v6 list rows4 rows6 sum (Ok bytes) own are is h = tt
+list_stops want zones name terms v4 v6 list rows4 rows6 sum (Err (stop.Refusal status line)) own are is h =
+    (h.0, packed v4 v6 own are (rw (is.list_is, is.rows4_are, is.rows6_are, is.sum_is) at h.1))
+list_stops want zones name terms v4 v6 list rows4 rows6 sum (Err (stop.ReadFault line)) own are is h = absurd h
+list_stops want zones name terms v4 v6 list rows4 rows6 sum (Err stop.Memory) own are is h = tt
+
+-- ---- why a list gives no output
+pub too_big_stops : (want : Wanted) (zones : List Zone) (others : ℕ) (list : List FlatTerm) (rows4 rows6 : List NeedRow) (sum : ℕ) (s : Stop) → IsTooBig want others list s → StopsList want zones others list rows4 rows6 sum s
+too_big_stops want zones others list rows4 rows6 sum (stop.Refusal status line) h =
+    (h.0, too_big h.1.2 (ap (λ (n : ℕ). Refuses n line) h.1.0 ∙ ap (λ (l : List ℕ). Refuses 2 l) h.1.1))
+too_big_stops want zones others list rows4 rows6 sum (stop.ReadFault line) h = h
+too_big_stops want zones others list rows4 rows6 sum stop.Memory h = tt
+
+pub taken_stops : (want : Wanted) (zones : List Zone) (others : ℕ) (list : List FlatTerm) (rows4 rows6 : List NeedRow) (sum : ℕ) (ends : List ℕ) (s : Stop) → IsChosenCut want others list ends → IsTakenStop want zones (length ends) s →
+    StopsList want zones others list rows4 rows6 sum s
+taken_stops want zones others list rows4 rows6 sum ends (stop.Refusal status line) chosen h =
+    (h.0, taken ends h.1.1 chosen h.1.2 (ap (λ (n : ℕ). Refuses n line) h.1.0 ∙ ap (λ (l : List ℕ). Refuses 1 l) h.1.3))
+taken_stops want zones others list rows4 rows6 sum ends (stop.ReadFault line) chosen h = h
+taken_stops want zones others list rows4 rows6 sum ends stop.Memory chosen h = tt
+
+-- ---- names that are taken
+-- one more name is free
+pub free_more : (want : Wanted) (zones : List Zone) (n : ℕ) → ((j : ℕ) → 1 ≤ j → j < n → IsFalse (is_needed_taken want zones j)) → is_needed_taken want zones n ≡ false → (j : ℕ) → 1 ≤ j → j < n + 1 → IsFalse (is_needed_taken want zones j)
+free_more want zones n free last j behind below = by (nat_lt j n) refl
+  where
+    by : (b : Bool) → nat_lt j n ≡ b → IsFalse (is_needed_taken want zones j)
+    by true e = free j behind (ltb-true j n e)
+    by false e =
+        let at_least : n ≤ j = ltb-false j n e in
+        let same : n ≡ j = omega (arith, at_least, below) in
+        subst (λ (k : ℕ). is_needed_taken want zones k ≡ false) same last

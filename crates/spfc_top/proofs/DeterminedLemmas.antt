@@ -1,5 +1,5 @@
 -- One thing is due at most.
-use Rattle.std.proofs.Common.{◌≡◌, ℕ, List, [], ◌∷◌, map, Some, Ok, Err, Option, refl, sym, ap, ◌∙◌}
+use Rattle.std.proofs.Common.{◌≡◌, ◌<◌, ◌+◌, ℕ, Bool, IsTrue, IsFalse, List, [], ◌∷◌, length, map, Some, Ok, Err, Option, refl, sym, ap, ap₂, ◌∙◌, subst, arith}
 use Rattle.zone_answers.specs.Zone.{Zone}
 use Rattle.zone_answers.specs.Answers.{answer_of}
 use Rattle.zone_answers.specs.declared.answer.QKind.TheVariants as kinds
@@ -15,7 +15,10 @@ use Rattle.spfc_words.specs.declared.job.Job.{Job}
 use Rattle.spfc_words.specs.declared.job.Job.TheVariants.{Compile, Check}
 use Rattle.spfc_words.specs.declared.zone_word.ZoneWord.{ZoneWord}
 use Rattle.spfc_top.specs.Due.{Due, Gives, Refuses}
-use Rattle.spfc_top.specs.Compiled.{fragment_of_one, AreVerdicts, TermsDue, too_big, written}
+use Rattle.fewest_terms.specs.Row.{NeedRow}
+use Rattle.zone_answers.specs.Names.{other_text_of}
+use Rattle.record_pack.specs.Records.{RiseTo, RecordsFit, TakeMost}
+use Rattle.spfc_top.specs.Compiled.{Wanted, wanted, wanted_text, needed_name, AreVerdicts, IsChosenCut, IsFirstTaken, AreFree, ListDue, too_big, taken, written, TermsDue, alias, packed}
 use Rattle.addr_bits.specs.declared.address.Address.{Address}
 use Rattle.spf_model.specs.declared.outcome.Limits.{Limits}
 use Rattle.spf_model.specs.declared.outcome.Outcome.{Outcome}
@@ -24,7 +27,7 @@ use Rattle.spf_model.specs.Result as model
 use Rattle.spf_model.specs.Lines.{outcome_words}
 use Rattle.spf_model.specs.Check.{check_host}
 use Rattle.spf_model.proofs.RunLaws.{one_end}
-use Rattle.spfc_top.specs.Lines.{line_of}
+use Rattle.spfc_top.specs.Lines.{line_of, taken_line}
 use Rattle.spfc_top.specs.Zones.{Contents}
 use Rattle.spfc_top.specs.Published.{SpellsFlat, Publishes, spf_texts, flat_term}
 use Rattle.spfc_top.specs.Findings.{PolicyDue, not_yet, published, OutcomeDue, ZonesDue, IsDue}
@@ -43,23 +46,80 @@ agree_six terms v4 v6 w4 w6 a b = record { agree = λ x e. a.six x (below_all 12
 list_same : (terms : List FlatTerm) (v4 v6 w4 w6 : ℕ → Verdict) → AreVerdicts terms v4 v6 → AreVerdicts terms w4 w6 → chosen_list v4 v6 ≡ chosen_list w4 w6
 list_same terms v4 v6 w4 w6 a b = chosen_list_same v4 w4 v6 w6 (agree_four terms v4 v6 w4 w6 a b) (agree_six terms v4 v6 w4 w6 a b)
 
-fragment_same : (domain : List ℕ) (terms : List FlatTerm) (v4 v6 w4 w6 : ℕ → Verdict) → AreVerdicts terms v4 v6 → AreVerdicts terms w4 w6 →
-    fragment_of_one domain (chosen_list v4 v6) (need_rows 32 v4 32 0) (need_rows 128 v6 128 0) (total v4 v6)
-    ≡ fragment_of_one domain (chosen_list w4 w6) (need_rows 32 w4 32 0) (need_rows 128 w6 128 0) (total w4 w6)
-fragment_same domain terms v4 v6 w4 w6 a b =
-    let four : Agree v4 w4 32 0 = agree_four terms v4 v6 w4 w6 a b in
-    let six : Agree v6 w6 128 0 = agree_six terms v4 v6 w4 w6 a b in
-    ap (λ (list : List FlatTerm). fragment_of_one domain list (need_rows 32 v4 32 0) (need_rows 128 v6 128 0) (total v4 v6)) (list_same terms v4 v6 w4 w6 a b)
-    ∙ ap (λ rows. fragment_of_one domain (chosen_list w4 w6) rows (need_rows 128 v6 128 0) (total v4 v6)) (rows_same 32 v4 w4 32 0 four)
-    ∙ ap (λ rows. fragment_of_one domain (chosen_list w4 w6) (need_rows 32 w4 32 0) rows (total v4 v6)) (rows_same 128 v6 w6 128 0 six)
-    ∙ ap (λ (sum : ℕ). fragment_of_one domain (chosen_list w4 w6) (need_rows 32 w4 32 0) (need_rows 128 w6 128 0) sum) (total_same v4 w4 v6 w6 four six)
+-- ---- one cut is chosen
+one_rest : (want : Wanted) (others : ℕ) (list : List FlatTerm) (k from : ℕ) (a b : List ℕ) → length a ≡ length b → RiseTo from (length list) a → RiseTo from (length list) b →
+    RecordsFit want.domain want.label want.size others list k from a → RecordsFit want.domain want.label want.size others list k from b →
+    TakeMost want.domain want.label want.size others list k from a → TakeMost want.domain want.label want.size others list k from b → a ≡ b
+one_rest want others list k from [] [] same ra rb fa fb ma mb = refl
+one_rest want others list k from [] (y ∷ b) same ra rb fa fb ma mb = absurd (omega (arith, same))
+one_rest want others list k from (x ∷ a) [] same ra rb fa fb ma mb = absurd (omega (arith, same))
+one_rest want others list k from (x ∷ []) (y ∷ []) same ra rb fa fb ma mb = ap (λ (n : ℕ). n ∷ []) (ra.2 ∙ sym rb.2)
+one_rest want others list k from (x ∷ []) (y ∷ q ∷ b) same ra rb fa fb ma mb = absurd (omega (arith, same))
+one_rest want others list k from (x ∷ p ∷ a) (y ∷ []) same ra rb fa fb ma mb = absurd (omega (arith, same))
+one_rest want others list k from (x ∷ p ∷ a) (y ∷ q ∷ b) same ra rb fa fb ma mb =
+    let not_below : x < y → ⊥ = λ lt. ma.0 y lt rb.1 fb.0 in
+    let not_above : y < x → ⊥ = λ lt. mb.0 x lt ra.1 fa.0 in
+    let first : x ≡ y = omega arith in
+    ap₂ (λ (n : ℕ) (ns : List ℕ). n ∷ ns) first
+    (one_rest want others list (k + 1) y (p ∷ a) (q ∷ b) (omega (arith, same))
+    (subst (λ (n : ℕ). RiseTo n (length list) (p ∷ a)) first ra.2) rb.2
+    (subst (λ (n : ℕ). RecordsFit want.domain want.label want.size others list (k + 1) n (p ∷ a)) first fa.1) fb.1
+    (subst (λ (n : ℕ). TakeMost want.domain want.label want.size others list (k + 1) n (p ∷ a)) first ma.1) mb.1)
 
-one_of_terms : (domain : List ℕ) (terms : List FlatTerm) (x y : Due) → TermsDue domain terms x → TermsDue domain terms y → x ≡ y
-one_of_terms domain terms x y (too_big v4 v6 a unfit is) (too_big w4 w6 b unfit' is') = is ∙ sym is'
-one_of_terms domain terms x y (too_big v4 v6 a unfit is) (written w4 w6 b fits is') = absurd (unfit (rw (list_same terms v4 v6 w4 w6 a b) fits))
-one_of_terms domain terms x y (written v4 v6 a fits is) (too_big w4 w6 b unfit is') = absurd (unfit (rw (list_same terms w4 w6 v4 v6 b a) fits))
-one_of_terms domain terms x y (written v4 v6 a fits is) (written w4 w6 b fits' is') =
-    is ∙ (ap (λ (bytes : List ℕ). Gives bytes) (fragment_same domain terms v4 v6 w4 w6 a b) ∙ sym is')
+one_cut : (want : Wanted) (others : ℕ) (list : List FlatTerm) (a b : List ℕ) → IsChosenCut want others list a → IsChosenCut want others list b → a ≡ b
+one_cut want others list a b x y =
+    let same : length a ≡ length b = omega (arith, x.fewest b y.fits, y.fewest a x.fits) in
+    one_rest want others list 0 0 a b same x.fits.cut.rise y.fits.cut.rise x.fits.fit y.fits.fit x.most y.most
+
+-- ---- one name is the first that is taken
+not_both : (b : Bool) → IsFalse b → IsTrue b → ⊥
+not_both b f t = cc
+
+one_first : (want : Wanted) (zones : List Zone) (records j k : ℕ) → IsFirstTaken want zones records j → IsFirstTaken want zones records k → j ≡ k
+one_first want zones records j k x y =
+    let not_below : j < k → ⊥ = λ lt. not_both _ (y.none_before j x.behind lt) x.taken in
+    let not_above : k < j → ⊥ = λ lt. not_both _ (x.none_before k y.behind lt) y.taken in
+    omega arith
+
+none_first : (want : Wanted) (zones : List Zone) (records k : ℕ) → AreFree want zones records → IsFirstTaken want zones records k → ⊥
+none_first want zones records k free first = not_both _ (free k first.behind first.within) first.taken
+
+one_of_list : (want : Wanted) (zones : List Zone) (others : ℕ) (list : List FlatTerm) (rows4 rows6 : List NeedRow) (sum : ℕ) (x y : Due) → ListDue want zones others list rows4 rows6 sum x → ListDue want zones others list rows4 rows6 sum y → x ≡ y
+one_of_list want zones others list rows4 rows6 sum x y (too_big none is) (too_big none' is') = is ∙ sym is'
+one_of_list want zones others list rows4 rows6 sum x y (too_big none is) (taken ends k chosen first is') = absurd (none ends chosen.fits)
+one_of_list want zones others list rows4 rows6 sum x y (too_big none is) (written ends chosen free is') = absurd (none ends chosen.fits)
+one_of_list want zones others list rows4 rows6 sum x y (taken ends k chosen first is) (too_big none is') = absurd (none ends chosen.fits)
+one_of_list want zones others list rows4 rows6 sum x y (written ends chosen free is) (too_big none is') = absurd (none ends chosen.fits)
+one_of_list want zones others list rows4 rows6 sum x y (taken ends j chosen first is) (taken ends' k chosen' first' is') =
+    let cut : ends' ≡ ends = one_cut want others list ends' ends chosen' chosen in
+    let number : j ≡ k = one_first want zones (length ends) j k first (subst (λ (es : List ℕ). IsFirstTaken want zones (length es) k) cut first') in
+    is ∙ (ap (λ (n : ℕ). Refuses 1 (taken_line n (needed_name want n))) number ∙ sym is')
+one_of_list want zones others list rows4 rows6 sum x y (taken ends k chosen first is) (written ends' chosen' free is') =
+    let cut : ends' ≡ ends = one_cut want others list ends' ends chosen' chosen in
+    absurd (none_first want zones (length ends) k (subst (λ (es : List ℕ). AreFree want zones (length es)) cut free) first)
+one_of_list want zones others list rows4 rows6 sum x y (written ends chosen free is) (taken ends' k chosen' first is') =
+    let cut : ends' ≡ ends = one_cut want others list ends' ends chosen' chosen in
+    absurd (none_first want zones (length ends) k free (subst (λ (es : List ℕ). IsFirstTaken want zones (length es) k) cut first))
+one_of_list want zones others list rows4 rows6 sum x y (written ends chosen free is) (written ends' chosen' free' is') =
+    is ∙ (ap (λ (es : List ℕ). Gives (wanted_text want list es rows4 rows6 sum)) (one_cut want others list ends ends' chosen chosen') ∙ sym is')
+
+-- ---- and so do the terms
+moved_due : (want : Wanted) (zones : List Zone) (others : ℕ) (l m : List FlatTerm) (a b c d : List NeedRow) (s t : ℕ) (x : Due) → l ≡ m → a ≡ b → c ≡ d → s ≡ t → ListDue want zones others l a c s x → ListDue want zones others m b d t x
+moved_due want zones others l m a b c d s t x lists four six sums due =
+    subst (λ (q : ℕ). ListDue want zones others m b d q x) sums
+    (subst (λ (q : List NeedRow). ListDue want zones others m b q s x) six
+    (subst (λ (q : List NeedRow). ListDue want zones others m q c s x) four
+    (subst (λ (q : List FlatTerm). ListDue want zones others q a c s x) lists due)))
+
+one_of_terms : (want : Wanted) (zones : List Zone) (name : List (List ℕ)) (terms : List FlatTerm) (x y : Due) → TermsDue want zones name terms x → TermsDue want zones name terms y → x ≡ y
+one_of_terms want zones name terms x y (alias own is) (alias own' is') = is ∙ sym is'
+one_of_terms want zones name terms x y (alias own is) (packed v4 v6 none are due) = absurd (not_both _ none own)
+one_of_terms want zones name terms x y (packed v4 v6 none are due) (alias own is) = absurd (not_both _ none own)
+one_of_terms want zones name terms x y (packed v4 v6 none a due) (packed w4 w6 none' b due') =
+    let four : Agree w4 v4 32 0 = agree_four terms w4 w6 v4 v6 b a in
+    let six : Agree w6 v6 128 0 = agree_six terms w4 w6 v4 v6 b a in
+    one_of_list want zones (other_text_of zones name) (chosen_list v4 v6) (need_rows 32 v4 32 0) (need_rows 128 v6 128 0) (total v4 v6) x y due
+    (moved_due want zones (other_text_of zones name) _ _ _ _ _ _ _ _ y (list_same terms w4 w6 v4 v6 b a) (rows_same 32 w4 v4 32 0 four) (rows_same 128 w6 v6 128 0 six) (total_same w4 v4 w6 v6 four six) due')
 
 -- ---- zones publish one list
 some_twice : (xs ys : List FlatTerm) → map Some xs ≡ map Some ys → xs ≡ ys
@@ -98,12 +158,15 @@ one_published zones domain xs ys a b =
     let text : b.text ≡ a.text = one_twice alone a.alone in
     one_flat a.text xs ys a.spelled (rw text at b.spelled)
 
-one_of_policy : (domain : List ℕ) (zones : List Zone) (x y : Due) → PolicyDue domain zones x → PolicyDue domain zones y → x ≡ y
-one_of_policy domain zones x y (not_yet none is) (not_yet none' is') = is ∙ sym is'
-one_of_policy domain zones x y (not_yet none is) (published terms has due) = absurd (none terms has)
-one_of_policy domain zones x y (published terms has due) (not_yet none is) = absurd (none terms has)
-one_of_policy domain zones x y (published terms has due) (published terms' has' due') =
-    one_of_terms domain terms x y due (rw (one_published zones domain terms terms' has has') due')
+one_of_policy : (want : Wanted) (zones : List Zone) (x y : Due) → PolicyDue want zones x → PolicyDue want zones y → x ≡ y
+one_of_policy want zones x y (not_yet none is) (not_yet none' is') = is ∙ sym is'
+one_of_policy want zones x y (not_yet none is) (published terms has due) = absurd (none terms has)
+one_of_policy want zones x y (published terms has due) (not_yet none is) = absurd (none terms has)
+one_of_policy want zones x y (published terms has due) (published terms' has' due') =
+    let name : has'.name ≡ has.name = ok_twice has'.named has.named in
+    let same : terms' ≡ terms = one_published zones want.domain terms' terms has' has in
+    one_of_terms want zones has.name terms x y due
+    (subst (λ (ts : List FlatTerm). TermsDue want zones has.name ts y) same (subst (λ (n : List (List ℕ)). TermsDue want zones n terms' y) name due'))
 
 -- ---- and so do zone words, the job and the words
 one_behind : (held : Contents) (words : List ZoneWord) (Next : List Zone → Due → Type 0) (x y : Due) → ((zones : List Zone) (a b : Due) → Next zones a → Next zones b → a ≡ b)
@@ -125,7 +188,7 @@ one_of_outcome : (domain : List ℕ) (address : Address) (limits : Limits) (zone
 one_of_outcome domain address limits zones x y (o, g, is) (p, h, is') = is ∙ (gives_twice o p (one_outcome zones limits domain address o p g h) ∙ sym is')
 
 one_of_job : (j : Job) (held : Contents) (x y : Due) → IsDue j held x → IsDue j held y → x ≡ y
-one_of_job (Compile domain words) held x y a b = one_behind held words _ x y (one_of_policy domain) a b
+one_of_job (Compile domain size ttl label words) held x y a b = one_behind held words _ x y (one_of_policy (wanted domain size ttl label)) a b
 one_of_job (Check domain address limits words) held x y a b = one_behind held words _ x y (one_of_outcome domain address limits) a b
 
 pub one_is_due : OneIsDue

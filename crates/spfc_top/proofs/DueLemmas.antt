@@ -1,5 +1,5 @@
 -- What is due for a job, by what was read.
-use Rattle.std.proofs.Common.{◌≤◌, ◌||◌, ℕ, Bool, true, false, List, [], ◌∷◌, Option, Result, Ok, Err, IfOk, IfErr, IsTrue, ap, arith}
+use Rattle.std.proofs.Common.{◌≡◌, ◌∙◌, sym, subst, ◌≤◌, ◌||◌, ℕ, Bool, true, false, List, [], ◌∷◌, Option, Result, Ok, Err, IfOk, IfErr, IsTrue, ap, arith}
 use Rattle.zone_answers.specs.Zone.{Zone}
 use Rattle.spf_grammar.specs.declared.flat.FlatTerm.{FlatTerm}
 use Rattle.spfc_words.specs.declared.job.Job.{Job}
@@ -13,7 +13,10 @@ use Rattle.spfc_words.specs.Words.{Spells}
 use Rattle.spfc_top.specs.declared.stop.Stop.{Stop}
 use Rattle.spfc_top.specs.declared.stop.Stop.TheVariants as stop
 use Rattle.spfc_top.specs.Due.{Due, Refuses, Gives}
-use Rattle.spfc_top.specs.Compiled.{TermsDue}
+use Rattle.dns_name.specs.Name.{name_of_text}
+use Rattle.dns_name.specs.declared.fault.NameFault.{NameFault}
+use Rattle.spfc_top.specs.Compiled.{Wanted, TermsDue}
+use Rattle.spfc_top.proofs.ZonesLemmas.{ok_twice}
 use Rattle.spfc_top.specs.Zones.{Contents, ZoneWordsDue}
 use Rattle.spfc_top.specs.Published.{Publishes}
 use Rattle.spfc_top.specs.Findings.{PolicyDue, published, ZonesDue, IsDue, IsReady, words_of}
@@ -25,7 +28,7 @@ told_alone true h = h
 told_alone false h = h
 
 told_told : (g : Given) (job : Job) → Tells g job → IsTrue g.told
-told_told g (Compile domain words) tells = told_alone g.told tells
+told_told g (Compile domain size ttl label words) tells = told_alone g.told tells
 told_told g (Check domain address limits words) tells = told_alone g.told tells
 
 pub job_refused : (g : Given) (job : Job) (status : ℕ) (line : List ℕ) → Spells g.words job → (IsTrue g.told → IsDue job g.held (Refuses status line)) → IsFinding g status line
@@ -61,7 +64,7 @@ modest settings limits are = record {
 }
 
 pub ready : (words : List (List ℕ)) (job : Job) → Spells words job → IsReady job
-ready words (Compile domain zones) is = tt
+ready words (Compile domain size ttl label zones) is = tt
 ready [] (Check domain address limits zones) is = absurd is
 ready (command ∷ []) (Check domain address limits zones) is = absurd is.1
 ready (command ∷ word ∷ []) (Check domain address limits zones) is = absurd is.1
@@ -70,17 +73,25 @@ ready (command ∷ word ∷ address_word ∷ words) (Check domain address limits
     (rw checked.lower (domain_is_name word checked.form), modest _ limits checked.reading)
 
 -- ---- what the terms of the zones come to
-pub policy_done : {E : Type 0} (domain : List ℕ) (zones : List Zone) (terms : List FlatTerm) (r : Result (List ℕ) E) → Publishes zones domain terms → IfOk r (λ bytes. TermsDue domain terms (Gives bytes)) →
-    IfOk r (λ bytes. PolicyDue domain zones (Gives bytes))
-policy_done domain zones terms (Ok bytes) has due = published terms has due
-policy_done domain zones terms (Err e) has due = tt
+pub policy_done : {E : Type 0} (want : Wanted) (zones : List Zone) (name : List (List ℕ)) (terms : List FlatTerm) (r : Result (List ℕ) E) → name_of_text want.domain ≡ Ok name → Publishes zones want.domain terms
+    → IfOk r (λ bytes. TermsDue want zones name terms (Gives bytes)) → IfOk r (λ bytes. PolicyDue want zones (Gives bytes))
+policy_done want zones name terms (Ok bytes) named has due = published terms has (subst (λ (n : List (List ℕ)). TermsDue want zones n terms (Gives bytes)) (ok_twice named has.named) due)
+policy_done want zones name terms (Err e) named has due = tt
 
-pub policy_stops : (domain : List ℕ) (zones : List Zone) (terms : List FlatTerm) (r : Result (List ℕ) Stop) → Publishes zones domain terms → IfErr r (StopsTerms domain terms) →
-    IfErr r (StopsBy (λ status line. PolicyDue domain zones (Refuses status line)) (λ line. ⊥))
-policy_stops domain zones terms (Ok bytes) has stops = tt
-policy_stops domain zones terms (Err (stop.Refusal status line)) has stops = (stops.0, published terms has stops.1)
-policy_stops domain zones terms (Err (stop.ReadFault line)) has stops = absurd stops
-policy_stops domain zones terms (Err stop.Memory) has stops = tt
+pub policy_stops : (want : Wanted) (zones : List Zone) (name : List (List ℕ)) (terms : List FlatTerm) (r : Result (List ℕ) Stop) → name_of_text want.domain ≡ Ok name → Publishes zones want.domain terms
+    → IfErr r (StopsTerms want zones name terms) → IfErr r (StopsBy (λ status line. PolicyDue want zones (Refuses status line)) (λ line. ⊥))
+policy_stops want zones name terms (Ok bytes) named has stops = tt
+policy_stops want zones name terms (Err (stop.Refusal status line)) named has stops =
+    (stops.0, published terms has (subst (λ (n : List (List ℕ)). TermsDue want zones n terms (Refuses status line)) (ok_twice named has.named) stops.1))
+policy_stops want zones name terms (Err (stop.ReadFault line)) named has stops = absurd stops
+policy_stops want zones name terms (Err stop.Memory) named has stops = tt
+
+-- a text that is no name has no policy
+pub no_name : (zones : List Zone) (domain : List ℕ) (fault : NameFault) → name_of_text domain ≡ Err fault → (terms : List FlatTerm) → ¬ Publishes zones domain terms
+no_name zones domain fault is terms has = clash (sym is ∙ has.named)
+  where
+    clash : {name : List (List ℕ)} → Err fault ≡ Ok name → ⊥
+    clash e = cc
 
 -- ---- what zones come to behind their words
 pub behind_done : {E : Type 0} (told : Bool) (held : Contents) (words : List ZoneWord) (zones : List Zone) (Next : List Zone → Due → Type 0) (r : Result (List ℕ) E) →

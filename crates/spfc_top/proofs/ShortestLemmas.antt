@@ -18,7 +18,8 @@ use Rattle.fewest_terms.proofs.TableLemmas.{need_rows-good}
 use Rattle.spfc_words.specs.declared.job.Job.{Job}
 use Rattle.spfc_words.specs.declared.job.Job.TheVariants.{Compile, Check}
 use Rattle.spfc_top.specs.Due.{Refuses, Gives}
-use Rattle.spfc_top.specs.Compiled.{AreVerdicts, TermsDue, too_big, written, IsShortest}
+use Rattle.zone_answers.specs.Names.{other_text_of}
+use Rattle.spfc_top.specs.Compiled.{Wanted, wanted, AreVerdicts, ListDue, too_big, taken, written, TermsDue, alias, packed, IsShortest}
 use Rattle.spfc_top.specs.Zones.{Contents}
 use Rattle.spfc_top.specs.Published.{Publishes}
 use Rattle.spfc_top.specs.Findings.{PolicyDue, not_yet, published, IsDue, IsBest}
@@ -47,17 +48,22 @@ rows_good : (v4 v6 : ℕ → Verdict) → IsGoodTable v4 v6 (need_rows 32 v4 32 
 unfolding total
 rows_good v4 v6 = need_rows-good v4 v6
 
-pub shortest_of : (domain : List ℕ) (terms : List FlatTerm) (bytes : List ℕ) → TermsDue domain terms (Gives bytes) → IsShortest domain terms bytes
-shortest_of domain terms bytes (too_big v4 v6 are unfit is) = absurd (refuses_not is)
-shortest_of domain terms bytes (written v4 v6 are fits is) = record {
+list_shortest : (want : Wanted) (zones : List Zone) (name : List (List ℕ)) (terms : List FlatTerm) (bytes : List ℕ) (v4 v6 : ℕ → Verdict) → AreVerdicts terms v4 v6 →
+    ListDue want zones (other_text_of zones name) (chosen_list v4 v6) (need_rows 32 v4 32 0) (need_rows 128 v6 128 0) (total v4 v6) (Gives bytes) → IsShortest want zones name terms bytes
+list_shortest want zones name terms bytes v4 v6 are (too_big none is) = absurd (refuses_not is)
+list_shortest want zones name terms bytes v4 v6 are (taken ends k chosen first is) = absurd (refuses_not is)
+list_shortest want zones name terms bytes v4 v6 are (written ends chosen free is) = record {
   list = chosen_list v4 v6;
+  ends = ends;
   rows4 = need_rows 32 v4 32 0;
   rows6 = need_rows 128 v6 128 0;
   sum = total v4 v6;
   v4 = v4;
   v6 = v6;
   written = gives_same is;
-  fits = fits;
+  fits = chosen.fits;
+  fewest = chosen.fewest;
+  free = free;
   prefixes = list-prefixes v4 v6 (chosen_list v4 v6) refl;
   same = chosen_gives terms v4 v6 are;
   shortest = λ other has same. list-shortest v4 v6 (chosen_list v4 v6) other refl (gives_same_verdicts terms other v4 v6 are has same);
@@ -66,15 +72,19 @@ shortest_of domain terms bytes (written v4 v6 are fits is) = record {
   counted = list-counted v4 v6 (chosen_list v4 v6) (total v4 v6) refl refl;
 }
 
-best_of_policy : (domain : List ℕ) (zones : List Zone) (bytes : List ℕ) → PolicyDue domain zones (Gives bytes) → (terms : List FlatTerm) × Publishes zones domain terms × IsShortest domain terms bytes
-best_of_policy domain zones bytes (not_yet none is) = absurd (refuses_not is)
-best_of_policy domain zones bytes (published terms has due) = (terms, has, shortest_of domain terms bytes due)
+pub shortest_of : (want : Wanted) (zones : List Zone) (name : List (List ℕ)) (terms : List FlatTerm) (bytes : List ℕ) → TermsDue want zones name terms (Gives bytes) → IsShortest want zones name terms bytes
+shortest_of want zones name terms bytes (alias own is) = absurd (refuses_not is)
+shortest_of want zones name terms bytes (packed v4 v6 none are due) = list_shortest want zones name terms bytes v4 v6 are due
+
+best_of_policy : (want : Wanted) (zones : List Zone) (bytes : List ℕ) → PolicyDue want zones (Gives bytes) → (terms : List FlatTerm) × (policy : Publishes zones want.domain terms) × IsShortest want zones policy.name terms bytes
+best_of_policy want zones bytes (not_yet none is) = absurd (refuses_not is)
+best_of_policy want zones bytes (published terms has due) = (terms, has, shortest_of want zones has.name terms bytes due)
 
 best_of_job : (job : Job) (held : Contents) (bytes : List ℕ) → IsDue job held (Gives bytes) → IsBest job held bytes
-best_of_job (Compile domain words) held bytes (Ok zones, are, due) =
-    let best = best_of_policy domain zones bytes due in
+best_of_job (Compile domain size ttl label words) held bytes (Ok zones, are, due) =
+    let best = best_of_policy (wanted domain size ttl label) zones bytes due in
     (zones, best.0, are, best.1, best.2)
-best_of_job (Compile domain words) held bytes (Err line, are, due) = absurd (refuses_not due)
+best_of_job (Compile domain size ttl label words) held bytes (Err line, are, due) = absurd (refuses_not due)
 best_of_job (Check domain address limits words) held bytes (Ok zones, are, (outcome, gives, is)) = (zones, outcome, are, gives, gives_same is)
 best_of_job (Check domain address limits words) held bytes (Err line, are, due) = absurd (refuses_not due)
 

@@ -6,18 +6,20 @@ use Rattle.master_reader.specs.Readers.{StandsFor, DecidesFault}
 use Rattle.zone_answers.specs.Zone.{Zone}
 use Rattle.zone_answers.specs.declared.fault.LendFault.{LendFault}
 use Rattle.spf_grammar.specs.declared.flat.FlatTerm.{FlatTerm}
+use Rattle.fewest_terms.specs.Row.{NeedRow}
 use Rattle.spfc_words.specs.declared.zone_word.ZoneWord.{ZoneWord}
 use Rattle.spfc_top.specs.declared.answer.Answer.{Answer}
 use Rattle.spfc_top.specs.declared.answer.Answer.TheVariants.{Output, Usage, Refusal, ReadFault}
+use Rattle.spfc_top.specs.declared.form.Form.{Form}
 use Rattle.spfc_top.specs.declared.stop.Stop.{Stop}
 use Rattle.spfc_top.specs.declared.stop.Stop.TheVariants as stop
 use Rattle.spfc_top.specs.declared.reading.Taken.{Taken}
 use Rattle.spfc_top.specs.declared.reading.Progress.{Progress}
 use Rattle.spfc_top.specs.declared.reading.Progress.TheVariants.{Reads, Faulty}
-use Rattle.spfc_top.specs.Lines.{read_fault_line, too_big_line}
+use Rattle.spfc_top.specs.Lines.{read_fault_line, too_big_line, taken_line}
 use Rattle.spfc_top.specs.Zones.{Contents, most_bytes, lend_line, ZoneWordsDue, words_before}
 use Rattle.spfc_top.specs.Due.{Refuses}
-use Rattle.spfc_top.specs.Compiled.{TermsDue, FitsAlone}
+use Rattle.spfc_top.specs.Compiled.{Wanted, wanted, TermsDue, ListDue, CutFits, IsFirstTaken, needed_name}
 use Rattle.spfc_top.specs.Ends.{Given, IsOutput, IsFinding, IsUsage, IsReadFault, IsFindingStatus}
 
 abbrev pub IsAnswer : Given → ℕ → ℕ → Option (List ℕ) → Answer → Type 0
@@ -75,9 +77,17 @@ IsStopOf origin why (stop.Refusal status line) = (status ≡ 3) × (lend_line or
 IsStopOf origin why (stop.ReadFault line) = ⊥
 IsStopOf origin why stop.Memory = ⊤
 
+-- what the words say of the records, as it is handed on
+abbrev pub wanted_by : Form → Wanted
+wanted_by form = wanted form.domain.now form.size form.ttl form.label.now
+
 -- why the terms give no output
-abbrev pub StopsTerms : (domain : List ℕ) → List FlatTerm → Stop → Type 0
-StopsTerms domain terms = StopsBy (λ status line. TermsDue domain terms (Refuses status line)) (λ line. ⊥)
+abbrev pub StopsTerms : Wanted → List Zone → (name : List (List ℕ)) → List FlatTerm → Stop → Type 0
+StopsTerms want zones name terms = StopsBy (λ status line. TermsDue want zones name terms (Refuses status line)) (λ line. ⊥)
+
+-- why the list gives no output
+abbrev pub StopsList : Wanted → List Zone → (others : ℕ) → List FlatTerm → (rows4 rows6 : List NeedRow) → (sum : ℕ) → Stop → Type 0
+StopsList want zones others list rows4 rows6 sum = StopsBy (λ status line. ListDue want zones others list rows4 rows6 sum (Refuses status line)) (λ line. ⊥)
 
 -- it is no read fault
 abbrev pub IsNoFault : Stop → Type 0
@@ -91,6 +101,11 @@ IsNoReadFault (Usage line) = ⊤
 IsNoReadFault (Refusal status line) = ⊤
 IsNoReadFault (ReadFault line) = ⊥
 
--- the list does not fit as one record
-abbrev pub IsTooBig : (domain : List ℕ) → List FlatTerm → Stop → Type 0
-IsTooBig domain list = StopsBy (λ status line. (status ≡ 2) × (line ≡ too_big_line) × ¬ FitsAlone domain list) (λ line. ⊥)
+-- no cut of the list fits
+abbrev pub IsTooBig : Wanted → (others : ℕ) → List FlatTerm → Stop → Type 0
+IsTooBig want others list = StopsBy (λ status line. (status ≡ 2) × (line ≡ too_big_line) × ((ends : List ℕ) → ¬ CutFits want others list ends)) (λ line. ⊥)
+
+-- the name of a record is taken, of so many
+abbrev pub IsTakenStop : Wanted → List Zone → (records : ℕ) → Stop → Type 0
+IsTakenStop want zones records =
+    StopsBy (λ status line. (status ≡ 1) × (k : ℕ) × IsFirstTaken want zones records k × (line ≡ taken_line k (needed_name want k))) (λ line. ⊥)

@@ -17,12 +17,12 @@ use Rattle.spf_model.specs.Result as model
 use Rattle.spf_model.specs.Lines.{outcome_words}
 use Rattle.spfc_top.specs.Lines.{line_of, not_yet_line}
 use Rattle.spfc_top.specs.Due.{Due, Refuses, Gives}
-use Rattle.spfc_top.specs.Compiled.{TermsDue, IsShortest}
+use Rattle.spfc_top.specs.Compiled.{Wanted, wanted, TermsDue, IsShortest}
 
 -- what is due for a domain over these zones
-pub data PolicyDue (domain : List ℕ) (zones : List Zone) (due : Due) : Type 0 where
-  not_yet : ((terms : List FlatTerm) → ¬ Publishes zones domain terms) → due ≡ Refuses 3 (not_yet_line domain) → PolicyDue domain zones due
-  published : (terms : List FlatTerm) → Publishes zones domain terms → TermsDue domain terms due → PolicyDue domain zones due
+pub data PolicyDue (want : Wanted) (zones : List Zone) (due : Due) : Type 0 where
+  not_yet : ((terms : List FlatTerm) → ¬ Publishes zones want.domain terms) → due ≡ Refuses 3 (not_yet_line want.domain) → PolicyDue want zones due
+  published : (terms : List FlatTerm) (policy : Publishes zones want.domain terms) → TermsDue want zones policy.name terms due → PolicyDue want zones due
 
 -- RFC 7208, section 4: what is due for an address over these zones is the line of its outcome
 abbrev pub OutcomeDue : (domain : List ℕ) → Address → Limits → List Zone → Due → Type 0
@@ -40,12 +40,12 @@ ZonesDue held words Next due = (found : Result (List Zone) (List ℕ)) × ZoneWo
 
 -- what is due for a job
 abbrev pub IsDue : Job → Contents → Due → Type 0
-IsDue (Compile domain words) held due = ZonesDue held words (PolicyDue domain) due
+IsDue (Compile domain size ttl label words) held due = ZonesDue held words (PolicyDue (wanted domain size ttl label)) due
 IsDue (Check domain address limits words) held due = ZonesDue held words (OutcomeDue domain address limits) due
 
 -- the zone words of a job, in order
 abbrev pub words_of : Job → List ZoneWord
-words_of (Compile domain words) = words
+words_of (Compile domain size ttl label words) = words
 words_of (Check domain address limits words) = words
 
 -- the names of the files that the job takes up, in order
@@ -54,18 +54,19 @@ names_of job = map (λ word. word.file) (words_of job)
 
 -- the job reads no file, so that its end rests on no contents
 abbrev pub reads_none : Job → Bool
-reads_none (Compile domain words) = false
+reads_none (Compile domain size ttl label words) = false
 reads_none (Check domain address limits words) = false
 
 -- the domain of a job for one address is a legal name, and its limits are modest
 abbrev pub IsReady : Job → Type 0
-IsReady (Compile domain words) = Unit {0}
+IsReady (Compile domain size ttl label words) = Unit {0}
 IsReady (Check domain address limits words) = IsOk (name_of_text domain) × AreModest limits
 
 -- what the output of a job keeps and what no other output can better; the outcome of an address is one alone
 abbrev pub IsBest : Job → Contents → (bytes : List ℕ) → Type 0
-IsBest (Compile domain words) held bytes =
-    (zones : List Zone) × (terms : List FlatTerm) × ZoneWordsDue held [] words (Ok zones) × Publishes zones domain terms × IsShortest domain terms bytes
+IsBest (Compile domain size ttl label words) held bytes =
+    (zones : List Zone) × (terms : List FlatTerm) × ZoneWordsDue held [] words (Ok zones)
+    × (policy : Publishes zones domain terms) × IsShortest (wanted domain size ttl label) zones policy.name terms bytes
 IsBest (Check domain address limits words) held bytes =
     (zones : List Zone) × (outcome : Outcome) × ZoneWordsDue held [] words (Ok zones) × model.Gives (says zones) limits domain address outcome
     × (bytes ≡ line_of [] (outcome_words outcome))

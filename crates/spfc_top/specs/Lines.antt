@@ -54,5 +54,13 @@ not_yet_line domain = line_of (codes "not yet ") domain
 abbrev pub too_big_line : List ℕ
 too_big_line = line_of (codes "too big") []
 
+-- a CNAME record stands at the domain
+abbrev pub alias_line : (domain : List ℕ) → List ℕ
+alias_line domain = line_of (codes "refused alias ") domain
+
+-- the name of record k is taken
+abbrev pub taken_line : (k : ℕ) → (name : List ℕ) → List ℕ
+taken_line k name = line_of (codes "refused taken ") (spaced (decimal k) name)
+
 abbrev pub read_fault_line : List ℕ → List ℕ
 read_fault_line file = line_of (codes "read fault ") file

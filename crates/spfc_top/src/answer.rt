@@ -7,6 +7,7 @@ ghost use Rattle.spfc_top.specs.Ends.{given};
 
 use crate::check::check;
 use crate::compile::compile;
+use crate::form::Form;
 use crate::stop::Stop;
 use crate::text::line;
 use addr_bits::Bytes;
@@ -59,8 +60,20 @@ fn do_job<F: Files>(alloc: Global, files: &mut F, job: &Job) -> Result<Bytes, St
     ensures never_fails { IsTrue (F.is_assured files.old) → IfErr result IsNoFault }
 {
     match job {
-        Job::Compile { domain, zones } => {
-            compile(alloc, files, domain.as_slice(), zones.as_slice())
+        Job::Compile {
+            domain,
+            size,
+            ttl,
+            label,
+            zones,
+        } => {
+            let form = Form {
+                domain: domain.as_slice(),
+                size: *size,
+                ttl: *ttl,
+                label: label.as_slice(),
+            };
+            compile(alloc, files, form, zones.as_slice())
         }
         Job::Check {
             domain,

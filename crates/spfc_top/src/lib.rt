@@ -4,8 +4,10 @@
 mod answer;
 mod check;
 mod compile;
+mod form;
 mod laws;
 mod lending;
+mod needed;
 mod published;
 mod reading;
 mod stop;

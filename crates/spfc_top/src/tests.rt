@@ -55,68 +55,104 @@ const WORDS: [&str; 3] = ["compile", "example.com", "example.com=z"];
 
 const ROW_1: &[u8] = b"@ IN TXT \"v=spf1 ip4:192.0.2.0/25 ip4:192.0.2.128/25 -all\"\n";
 
-// A file, and the output whole, or what it begins and ends with.
+// Options and a file, and the output whole, or what it begins and ends with.
 struct Output<'a> {
+    options: &'a [&'a str],
     file: &'a [u8],
     begins: &'a [u8],
     ends: &'a [u8],
     len: usize,
 }
 
-const OUTPUTS: [Output<'static>; 9] = [
+// Two networks beside another text, which need two records below a size of 64.
+const TWO_NETS: &[u8] =
+    b"@ TXT \"v=spf1 ip4:10.0.0.0/8 ip4:192.0.2.0/24 -all\"\n@ TXT \"verify=0123456789\"\n";
+
+// The same, where something stands at the name of the second.
+const TAKEN: &[u8] =
+    b"@ TXT \"v=spf1 ip4:10.0.0.0/8 ip4:192.0.2.0/24 -all\"\n@ TXT \"verify=0123456789\"\n_spf1 TXT \"old\"\n";
+
+// The same, where something stands below that name alone.
+const TAKEN_BELOW: &[u8] =
+    b"@ TXT \"v=spf1 ip4:10.0.0.0/8 ip4:192.0.2.0/24 -all\"\n@ TXT \"verify=0123456789\"\na.b._spf1 A 192.0.2.1\n";
+
+const OUTPUTS: [Output<'static>; 11] = [
     Output {
+        options: &[],
         file: ROW_1,
         begins: b"$ORIGIN example.com.\n$TTL 3600\n@ IN TXT \"v=spf1 ip4:192.0.2.0/24 -all\"\n; row 0.0.0.0/0 1 2 2 2\n",
         ends: b"; row 192.0.0.0/22 1 2 2 2\n; row 192.0.2.0/23 1 2 1 2\n; fewest 2\n",
         len: 718,
     },
     Output {
+        options: &[],
         file: b"@ IN TXT \"v=spf1 ?all\"\n",
         begins: b"$ORIGIN example.com.\n$TTL 3600\n@ IN TXT \"v=spf1\"\n; fewest 0\n",
         ends: b"; fewest 0\n",
         len: 60,
     },
     Output {
+        options: &[],
         file: b"@ IN TXT \"v=spf1 +all\"\n",
         begins: b"$ORIGIN example.com.\n$TTL 3600\n@ IN TXT \"v=spf1 all\"\n; fewest 1\n",
         ends: b"; fewest 1\n",
         len: 64,
     },
     Output {
+        options: &[],
         file: b"@ IN TXT \"v=spf1 ip4:0.0.0.0/1 -all\"\n",
         begins: b"$ORIGIN example.com.\n$TTL 3600\n@ IN TXT \"v=spf1 ip4:0.0.0.0/1 -all\"\n; row 0.0.0.0/0 1 2 1 2\n; fewest 2\n",
         ends: b"; fewest 2\n",
         len: 103,
     },
     Output {
+        options: &[],
         file: b"@ IN TXT \"v=spf1 -ip4:10.1.0.0/16 ip4:10.0.0.0/8 -all\"\n",
         begins: b"$ORIGIN example.com.\n$TTL 3600\n@ IN TXT \"v=spf1 -ip4:10.1.0.0/16 ip4:10.0.0.0/8 -all\"\n; row ",
         ends: b"; fewest 3\n",
         len: 0,
     },
     Output {
+        options: &[],
         file: b"@ 3600 IN SOA ns.example.com. admin.example.com. ( 1 7200 ; serial\n  900 1209600\n  300 ) ; end\n@ IN TXT ( \"v=spf1 ip4:192.0.\"  ; first part\n  \"2.0/24\"\n  \" -all\" )\n",
         begins: b"$ORIGIN example.com.\n$TTL 3600\n@ IN TXT \"v=spf1 ip4:192.0.2.0/24 -all\"\n; row ",
         ends: b"; fewest 2\n",
         len: 718,
     },
     Output {
+        options: &[],
         file: b"@ TXT \"v=spf1 ?all\"\n@ TXT \"verify=0123456789\"\n@ TXT \"v=spf1 ?all\"\n",
         begins: b"$ORIGIN example.com.\n$TTL 3600\n@ IN TXT \"v=spf1\"\n; fewest 0\n",
         ends: b"; fewest 0\n",
         len: 60,
     },
     Output {
+        options: &[],
         file: b"example.com. 1h A 192.0.2.1\n TXT \"v=spf1 ip6:2001:0DB8:0:0:1:0:0:1/127 -all\"\n",
         begins: b"$ORIGIN example.com.\n$TTL 3600\n@ IN TXT \"v=spf1 ip6:2001:db8:0:0:1::/127 -all\"\n; row ",
         ends: b"; fewest 2\n",
         len: 0,
     },
     Output {
-        file: b"@ CNAME a.b\n*.b CNAME www\nwww TXT \"v=spf1 +all\"\n",
-        begins: b"$ORIGIN example.com.\n$TTL 3600\n@ IN TXT \"v=spf1 all\"\n; fewest 1\n",
+        options: &["--ttl", "0", "--label", "_x", "--size", "64"],
+        file: b"@ TXT \"v=spf1 +all\"\n_spf1 TXT \"old\"\n",
+        begins: b"$ORIGIN example.com.\n$TTL 0\n@ IN TXT \"v=spf1 all\"\n; fewest 1\n",
         ends: b"; fewest 1\n",
-        len: 64,
+        len: 61,
+    },
+    Output {
+        options: &["--size", "64"],
+        file: TWO_NETS,
+        begins: b"$ORIGIN example.com.\n$TTL 3600\n@ IN TXT \"v=spf1 redirect=_spf1.example.com\"\n_spf1 IN TXT \"v=spf1 ip4:10.0.0.0/8 ip4:192.0.2.0/24 -all\"\n; row ",
+        ends: b"; fewest 3\n",
+        len: 0,
+    },
+    Output {
+        options: &["--size", "64", "--label", "_spfb"],
+        file: TAKEN,
+        begins: b"$ORIGIN example.com.\n$TTL 3600\n@ IN TXT \"v=spf1 redirect=_spfb1.example.com\"\n_spfb1 IN TXT \"v=spf1 ip4:10.0.0.0/8 ip4:192.0.2.0/24 -all\"\n; row ",
+        ends: b"; fewest 3\n",
+        len: 0,
     },
 ];
 
@@ -124,14 +160,12 @@ fn try_output(rt: &impl Abort, alloc: Global, case: &Output<'_>) -> Result<(), F
     let mut files = one_file(alloc, b"z", case.file, &[])?;
     let mut out = sink(alloc, &[])?;
     let mut err = sink(alloc, &[])?;
-    let status = run(
-        alloc,
-        &words(alloc, &WORDS)?,
-        &mut files,
-        &mut out,
-        &mut err,
-    );
-    assert_eq!(rt; status, 0);
+    let mut words = words(alloc, &["compile", "example.com"])?;
+    for option in case.options {
+        words.push(String::from_str(alloc, option)?)?;
+    }
+    words.push(String::from_str(alloc, "example.com=z")?)?;
+    assert_eq!(rt; run(alloc, &words, &mut files, &mut out, &mut err), 0);
     assert!(rt; out.bytes().starts_with(case.begins) && out.bytes().ends_with(case.ends));
     assert!(rt; case.len == 0 || out.bytes().len() == case.len);
     assert!(rt; err.bytes().is_empty());
@@ -156,7 +190,52 @@ struct Refusal<'a> {
 
 const TWO_ZONES: [&str; 4] = ["compile", "Example.com", "example.com=z", "NET.=y"];
 
-const REFUSALS: [Refusal<'static>; 12] = [
+const SMALL: [&str; 5] = ["compile", "example.com", "--size", "64", "example.com=z"];
+
+const REFUSALS: [Refusal<'static>; 17] = [
+    Refusal {
+        words: &WORDS,
+        files: &[(
+            b"z",
+            b"@ CNAME a.b\n*.b CNAME www\nwww TXT \"v=spf1 +all\"\n",
+        )],
+        status: 1,
+        line: b"refused alias example.com\n",
+    },
+    Refusal {
+        words: &SMALL,
+        files: &[(b"z", TAKEN)],
+        status: 1,
+        line: b"refused taken 1 _spf1.example.com\n",
+    },
+    Refusal {
+        words: &SMALL,
+        files: &[(b"z", TAKEN_BELOW)],
+        status: 1,
+        line: b"refused taken 1 _spf1.example.com\n",
+    },
+    Refusal {
+        words: &[
+            "compile",
+            "example.com",
+            "--size",
+            "64",
+            "example.com=z",
+            "_spf1.example.com=y",
+        ],
+        files: &[(b"z", TWO_NETS), (b"y", b"")],
+        status: 1,
+        line: b"refused taken 1 _spf1.example.com\n",
+    },
+    Refusal {
+        words: &SMALL,
+        files: &[(
+            b"z",
+            b"@ TXT \"v=spf1 ip4:10.0.0.0/8 ip4:192.0.2.0/24 -all\"\n@ TXT \"verify=0123456789abc\"\n_spf1 TXT \"old\"\n",
+        )],
+        status: 2,
+        line: b"too big\n",
+    },
     Refusal {
         words: &WORDS,
         files: &[(b"z", b"@ IN TXT \"v=spf1 a -all\"\n")],
@@ -401,5 +480,43 @@ fn a_record_fits_or_is_too_big(rt: HostRuntime) -> Result<(), Fail> {
     for (last, status) in [(41usize, 0u8), (42, 2), (54, 2), (55, 4)] {
         try_long(&rt, rt.alloc(), last, status)?;
     }
+    Ok(())
+}
+
+// The file of a record of 213 networks, 20 octets each with its space, and `-all`.
+fn many_nets(alloc: Global) -> Result<String, AllocError> {
+    let mut file = String::from_str(alloc, "@ TXT ( \"v=spf1\"")?;
+    for place in 0..213u16 {
+        let x = 100 + place / 50;
+        let y = 100 + 2 * (place % 50);
+        file.push_str(&format!(in alloc; " \" ip4:10.{x}.{y}.0/24\"")?)?;
+    }
+    file.push_str(" \" -all\" )\n")?;
+    Ok(file)
+}
+
+// 11 records have too little room for them by default, and 5 have enough below a size of 1,024.
+#[test]
+fn many_records_are_written(rt: HostRuntime) -> Result<(), Fail> {
+    let alloc = rt.alloc();
+    let file = many_nets(alloc)?;
+    let mut files = one_file(alloc, b"z", file.as_bytes(), &[])?;
+    let mut out = MemSink::new(alloc, 131_072, 4096, calls(alloc, &[])?)?;
+    let mut err = sink(alloc, &[])?;
+    let small = words(alloc, &WORDS)?;
+    assert_eq!(rt; run(alloc, &small, &mut files, &mut out, &mut err), 2);
+    assert_eq!(rt; err.bytes(), b"too big\n".as_slice());
+
+    let large = words(
+        alloc,
+        &["compile", "example.com", "--size", "1024", "example.com=z"],
+    )?;
+    assert_eq!(rt; run(alloc, &large, &mut files, &mut out, &mut err), 0);
+    let records = out
+        .bytes()
+        .split(|byte| *byte == b'\n')
+        .filter(|line| line.starts_with(b"_spf"));
+    assert_eq!(rt; records.count(), 4);
+    assert!(rt; out.bytes().ends_with(b"\n; fewest 214\n"));
     Ok(())
 }

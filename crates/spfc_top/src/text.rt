@@ -1,6 +1,6 @@
 //! Lines for the standard error.
 ghost use Rattle.std.specs.Prelude.{◌≡◌, ◌++◌, ◌∷◌, IfOk, OnOk};
-ghost use Rattle.spfc_top.specs.Lines.{line_of, kind_word, bad_zone_line, too_many_line, alias_and_other_line};
+ghost use Rattle.spfc_top.specs.Lines.{line_of, kind_word, bad_zone_line, too_many_line, alias_and_other_line, taken_line};
 
 use addr_bits::Bytes;
 use dns_name::Name;
@@ -85,4 +85,14 @@ pub(crate) fn alias_and_other(
     tail.extend_from_slice(&origin.write_text(alloc)?)?;
     push_part(&mut tail, &name.write_text(alloc)?)?;
     line(alloc, "alias and other ", tail.as_slice())
+}
+
+/// The line of a record whose name is taken.
+pub(crate) fn taken_line(alloc: Global, number: usize, name: &[u8]) -> Result<Bytes, AllocError>
+    ensures { IfOk result (λ bytes. bytes ≡ taken_line number name.now) }
+{
+    let mut tail = Bytes::new(alloc);
+    tail.extend_from_slice(Buffer::new().format(number).as_bytes())?;
+    push_part(&mut tail, name)?;
+    line(alloc, "refused taken ", tail.as_slice())
 }

@@ -16,7 +16,7 @@ use std::alloc::{AllocError, Global};
 /// | Status | What happened | What was written |
 /// |---|---|---|
 /// | 0 | the job is done | its output, to `out` |
-/// | 2, 3 | the job is refused | the refusal's line, to `err` |
+/// | 1, 2, 3 | the job is refused | the refusal's line, to `err` |
 /// | 4 | the words give no job | the line `usage`, to `err` |
 /// | 5 | a call of the files failed | the line `read fault FILE`, to `err` |
 /// | 6 | a write failed | a first part of what was due, to `out` or `err` |
@@ -34,7 +34,8 @@ pub fn run<F: Files, K: Sink, E: Sink>(
     ensures done { result ≡ 0 → (bytes : List ℕ) × IsOutput (given words.now (F.told files.old) (F.held files.old)) bytes
         × Appends (K.bytes out.old) (K.bytes out.new) bytes × (err.new ≡ err.old) }
 
-    // That output is the best that the job can have: of `compile`, a shortest list with the verdicts of the record.
+    // That output is the best that the job can have: of `compile`, a shortest list with the verdicts of the record, in records
+    // that fit, of which no cut that fits has fewer, and whose names are free.
     ensures best { result ≡ 0 → (bytes : List ℕ) × IsOutput (given words.now (F.told files.old) (F.held files.old)) bytes
         × IsBestOutput (given words.now (F.told files.old) (F.held files.old)) bytes
         × Appends (K.bytes out.old) (K.bytes out.new) bytes }

@@ -1,61 +1,72 @@
-//! Writing a shortest list as one record.
-ghost use Rattle.std.specs.Prelude.{◌≡◌, [], ◌∷◌, length, IfOk, IfErr};
+//! Writing a shortest list as the fewest records that fit.
+ghost use Rattle.std.specs.Prelude.{◌≡◌, ℕ, List, IfOk, IfErr};
+ghost use Rattle.zone_answers.specs.Names.{other_text_of};
 ghost use Rattle.spfc_top.specs.Due.{Gives};
-ghost use Rattle.spfc_top.specs.Compiled.{TermsDue, FitsAlone, fragment_of_one};
-ghost use Rattle.spfc_top.specs.Answers.{StopsTerms, IsTooBig};
+ghost use Rattle.spfc_top.specs.Compiled.{TermsDue, ListDue, IsChosenCut};
+ghost use Rattle.spfc_top.specs.Answers.{StopsTerms, StopsList, IsTooBig, wanted_by};
 
+use crate::form::Form;
+use crate::needed::refuse_taken;
 use crate::stop::Stop;
 use crate::text::line;
 use crate::verdicts::verdicts;
 use addr_bits::Bytes;
-use fewest_terms::{FlatList, Shortest, fewest};
-use record_pack::{Cut, Ends, fits};
+use dns_name::Name;
+use fewest_terms::{Shortest, fewest};
+use record_pack::{Cut, PackFault, pack};
 use spf_grammar::FlatTerm;
-use std::alloc::{AllocError, Global};
+use std::alloc::Global;
+use zone_answers::Zones;
 use zone_writer::fragment;
 
-/// What the names of further records begin with.
-const LABEL: &[u8] = b"_spf";
-
-/// What a record may take, in octets, plus one.
-const SIZE: u32 = 450;
-
-/// The TTL of the records, in seconds.
-const TTL: u32 = 3600;
-
-/// The fragment of a shortest list with the verdicts of the terms.
-pub(crate) fn write_terms(alloc: Global, domain: &[u8], terms: &[FlatTerm]) -> Result<Bytes, Stop>
-    ensures done { IfOk result (λ bytes. TermsDue domain.now terms.now (Gives bytes)) }
-    ensures stops { IfErr result (StopsTerms domain.now terms.now) }
+/// The fragment of a shortest list with the verdicts of the terms, which stand at the name.
+pub(crate) fn write_terms(
+    alloc: Global,
+    zones: &Zones,
+    name: &Name,
+    form: Form<'_>,
+    terms: &[FlatTerm],
+) -> Result<Bytes, Stop>
+    ensures done { IfOk result (λ bytes. TermsDue (wanted_by form.entry) zones.now name.now terms.now (Gives bytes)) }
+    ensures stops { IfErr result (StopsTerms (wanted_by form.entry) zones.now name.now terms.now) }
 {
+    if zones.own_alias(name) {
+        let line = line(alloc, "refused alias ", form.domain)?;
+        return Err(Stop::Refusal { status: 1, line });
+    }
     let tries = verdicts(alloc, terms)?;
     let found = fewest(alloc, &tries.v4, &tries.v6)?;
-    write_shortest(alloc, domain, &found)
+    write_shortest(alloc, zones, form, zones.other_text(name), &found)
 }
 
-// The fragment of the list as one record.
-fn write_shortest(alloc: Global, domain: &[u8], found: &Shortest) -> Result<Bytes, Stop>
-    ensures fits { IfOk result (λ _. FitsAlone domain.now found.now.list) }
-    ensures bytes { IfOk result (λ bytes. bytes ≡ fragment_of_one domain.now found.now.list found.now.rows4 found.now.rows6 found.now.total) }
-    ensures stops { IfErr result (IsTooBig domain.now found.now.list) }
+// The fragment of the list, beside other texts of so many octets at the domain.
+fn write_shortest(
+    alloc: Global,
+    zones: &Zones,
+    form: Form<'_>,
+    others: u64,
+    found: &Shortest,
+) -> Result<Bytes, Stop>
+    ensures done { IfOk result (λ bytes. ListDue (wanted_by form.entry) zones.now others found.now.list found.now.rows4 found.now.rows6 found.now.total (Gives bytes)) }
+    ensures stops { IfErr result (StopsList (wanted_by form.entry) zones.now others found.now.list found.now.rows4 found.now.rows6 found.now.total) }
 {
-    let list = found.list.as_slice();
-    if !fits(list, 0, list.len(), 0, true, domain, LABEL, SIZE, 0) {
-        return Err(Stop::Refusal {
-            status: 2,
-            line: line(alloc, "too big", b"")?,
-        });
-    }
-    let cut = one_record(alloc, &found.list)?;
-    let bytes = fragment(alloc, found, &cut, domain, LABEL, TTL)?;
+    let cut = cut_list(alloc, form, others, found.list.as_slice())?;
+    refuse_taken(alloc, zones, form, cut.ends.len())?;
+    let bytes = fragment(alloc, found, &cut, form.domain, form.label, form.ttl)?;
     Ok(bytes)
 }
 
-// The cut of the list into one record.
-fn one_record(alloc: Global, list: &FlatList) -> Result<Cut, AllocError>
-    ensures { IfOk result (λ cut. cut.ends ≡ length list.now ∷ []) }
+// The chosen cut of the list.
+fn cut_list(alloc: Global, form: Form<'_>, others: u64, list: &[FlatTerm]) -> Result<Cut, Stop>
+    ensures chosen { IfOk result (λ cut. IsChosenCut (wanted_by form.entry) others list.now cut.ends) }
+    ensures stops { IfErr result (IsTooBig (wanted_by form.entry) others list.now) }
 {
-    let mut ends = Ends::new(alloc);
-    ends.push(list.len())?;
-    Ok(Cut { ends })
+    match pack(alloc, list, form.domain, form.label, form.size, others) {
+        Ok(cut) => Ok(cut),
+        Err(PackFault::TooBig) => {
+            let line = line(alloc, "too big", b"")?;
+            Err(Stop::Refusal { status: 2, line })
+        }
+        Err(PackFault::Memory) => Err(Stop::Memory),
+    }
 }

@@ -1,4 +1,5 @@
 pub mod Checks
+pub mod Compiles
 pub mod Families
 pub mod OneJob
 pub mod Settings

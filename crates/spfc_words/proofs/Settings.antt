@@ -1,13 +1,12 @@
 -- Options in a row, and their numbers.
-use Rattle.std.proofs.Common.{◌≡◌, ◌↔◌, ℕ, ◌-◌, Bool, true, false, true≢false, is_some, String, string_bytes, bytes_eq, length, take, drop, get_or, ap₂, ◌<◌, ◌≤◌, ◌^◌, List, [], ◌∷◌, Option, Some, None, Result, refl, sym, ap, ◌∙◌, subst, arith, lit≤}
+use Rattle.std.proofs.Common.{◌++◌, option_map, MatchOption, ◌≡◌, ℕ, ◌-◌, Bool, true, false, codes, String, string_bytes, bytes_eq, length, take, drop, get_or, ap₂, ◌<◌, ◌≤◌, ◌^◌, List, [], ◌∷◌, Option, Some, None, Result, refl, sym, ap, ◌∙◌, arith, lit≤}
 use Rattle.std.specs.Result.{result_ok}
-use Rattle.std.specs.Option.{unwrap_or}
 use Rattle.std.specs.Str.Parse.{ParsesUnsigned}
 use Rattle.std.proofs.lemmas.Fmt.{parse-decimal, decimal_injective}
 use Rattle.spf_model.specs.declared.outcome.Limits.{Limits}
 use Rattle.std.proofs.lemmas.List.{take_rest}
 use Rattle.std.specs.declared.alloc.Global.{Global}
-use Rattle.spfc_words.specs.Options.{IsNumber, IsOption, Setting, AreLimits, settings_in, words_behind, values_of}
+use Rattle.spfc_words.specs.Options.{IsNumber, IsOption, IsLabelText, Setting, AreLimits, AreChainOptions, settings_in, words_behind, values_of}
 use Rattle.spfc_words.specs.Words.{texts}
 
 -- ---- one value
@@ -27,60 +26,45 @@ one_number low high m n text small a b =
     decimal_injective m n (number_fits low high m text small a) (number_fits low high n text small b) (sym a.written ∙ b.written)
 
 -- ---- values in a row
+abbrev pub as_list : Option (List ℕ) → List (List ℕ)
+as_list None = []
+as_list (Some value) = value ∷ []
 
--- what the values that are left make of an option, after what was found
-abbrev pub IsLeft : (low high by_default : ℕ) → Option ℕ → (values : List (List ℕ)) → ℕ → Type 0
-IsLeft low high by_default None values n = IsOption (IsNumber low high) by_default values n
-IsLeft low high by_default (Some m) values n = (values ≡ []) × (n ≡ m)
+-- what was found is all, where nothing is left
+pub found_all : {A : Type 0} (text : A → List ℕ) (found : Option A) (values : List (List ℕ)) → values ≡ as_list (option_map text found) ++ [] → MatchOption found (values ≡ []) (λ value. values ≡ text value ∷ [])
+found_all text None values all = all
+found_all text (Some value) values all = all
 
-pub one_option : (low high by_default m n : ℕ) (values : List (List ℕ)) → high < 2 ^ 32 → IsOption (IsNumber low high) by_default values m → IsOption (IsNumber low high) by_default values n → m ≡ n
-one_option low high by_default m n [] small a b = a ∙ sym b
-one_option low high by_default m n (value ∷ []) small a b = one_number low high m n value small a b
-one_option low high by_default m n (value ∷ again ∷ values) small a b = absurd a
+pub several : {A : Type 0} (Spells : List ℕ → A → Type 0) (by_default : A) (values : List (List ℕ)) → 2 ≤ length values → (a : A) → ¬ IsOption Spells by_default values a
+several Spells by_default [] long a is = omega (arith, long)
+several Spells by_default (value ∷ []) long a is = omega (arith, long)
+several Spells by_default (value ∷ again ∷ values) long a is = is
+
+one_option : {A : Type 0} (Spells : List ℕ → A → Type 0) (one : (text : List ℕ) (a b : A) → Spells text a → Spells text b → a ≡ b) (by_default : A) (values : List (List ℕ)) (a b : A)
+    → IsOption Spells by_default values a → IsOption Spells by_default values b → a ≡ b
+one_option Spells one by_default [] a b x y = x ∙ sym y
+one_option Spells one by_default (value ∷ []) a b x y = one value a b x y
+one_option Spells one by_default (value ∷ again ∷ values) a b x y = absurd x
+
+one_value : (low high by_default : ℕ) (values : List (List ℕ)) (m n : ℕ) → high < 2 ^ 32 → IsOption (IsNumber low high) by_default values m → IsOption (IsNumber low high) by_default values n → m ≡ n
+one_value low high by_default values m n small a b = one_option (IsNumber low high) (λ text m n. one_number low high m n text small) by_default values m n a b
+
+one_label : (text a b : List ℕ) → IsLabelText text a → IsLabelText text b → a ≡ b
+one_label text a b x y = x.lower ∙ sym y.lower
 
 pub one_limits : (settings : List Setting) (a b : Limits) → AreLimits settings a → AreLimits settings b → a ≡ b
 one_limits settings a b x y =
-    let l : a.lookups ≡ b.lookups = one_option 10 20 10 a.lookups b.lookups _ (lit≤ tt) x.lookups y.lookups in
-    let v : a.voids ≡ b.voids = one_option 2 20 2 a.voids b.voids _ (lit≤ tt) x.voids y.voids in
-    let e : a.exchanges ≡ b.exchanges = one_option 10 100 10 a.exchanges b.exchanges _ (lit≤ tt) x.exchanges y.exchanges in
+    let l : a.lookups ≡ b.lookups = one_value 10 20 10 _ a.lookups b.lookups (lit≤ tt) x.lookups y.lookups in
+    let v : a.voids ≡ b.voids = one_value 2 20 2 _ a.voids b.voids (lit≤ tt) x.voids y.voids in
+    let e : a.exchanges ≡ b.exchanges = one_value 10 100 10 _ a.exchanges b.exchanges (lit≤ tt) x.exchanges y.exchanges in
     λ i. record { lookups = l i; voids = v i; exchanges = e i }
 
--- a value that is no number, where none was found before
-pub no_number : (low high by_default : ℕ) (found : Option ℕ) (values more : List (List ℕ)) (value : List ℕ) → is_some found ≡ false → values ≡ value ∷ more → ((n : ℕ) → ¬ IsNumber low high value n)
-    → (n : ℕ) → ¬ IsLeft low high by_default found values n
-no_number low high by_default (Some m) values more value free parts none n left = absurd (true≢false free)
-no_number low high by_default None values more value free parts none n left = broken more (subst (λ vs. IsOption (IsNumber low high) by_default vs n) parts left)
-  where
-    broken : (more : List (List ℕ)) → IsOption (IsNumber low high) by_default (value ∷ more) n → ⊥
-    broken [] h = none n h
-    broken (again ∷ more) h = h
-
--- a second value
-pub no_second : (low high by_default : ℕ) (found : Option ℕ) (values more : List (List ℕ)) (value : List ℕ) → is_some found ≡ true → values ≡ value ∷ more → (n : ℕ) → ¬ IsLeft low high by_default found values n
-no_second low high by_default None values more value taken parts n left = true≢false (sym taken)
-no_second low high by_default (Some m) values more value taken parts n left = some_none (sym parts ∙ left.0)
-  where
-    some_none : value ∷ more ≡ [] → ⊥
-    some_none e = cc
-
--- the first value
-pub one_found : (low high by_default : ℕ) (found : Option ℕ) (values more : List (List ℕ)) (value : List ℕ) (m : ℕ) → high < 2 ^ 32 → is_some found ≡ false → values ≡ value ∷ more → IsNumber low high value m
-    → (n : ℕ) → IsLeft low high by_default found values n ↔ IsLeft low high by_default (Some m) more n
-one_found low high by_default (Some k) values more value m small free parts is n = absurd (true≢false free)
-one_found low high by_default None values more value m small free parts is n =
-    (λ left. onward more (subst (λ vs. IsOption (IsNumber low high) by_default vs n) parts left), λ right. subst (λ vs. IsOption (IsNumber low high) by_default vs n) (sym parts) (back more right))
-  where
-    onward : (more : List (List ℕ)) → IsOption (IsNumber low high) by_default (value ∷ more) n → (more ≡ []) × (n ≡ m)
-    onward [] h = (refl, one_number low high n m value small h is)
-    onward (again ∷ more) h = absurd h
-
-    back : (more : List (List ℕ)) → (more ≡ []) × (n ≡ m) → IsOption (IsNumber low high) by_default (value ∷ more) n
-    back more h = subst (λ vs. IsOption (IsNumber low high) by_default (value ∷ vs) n) (sym h.0) (subst (λ (k : ℕ). IsNumber low high value k) (sym h.1) is)
-
--- no value is left
-pub closed : (low high by_default : ℕ) (found : Option ℕ) (values : List (List ℕ)) → values ≡ [] → IsLeft low high by_default found values (unwrap_or found by_default)
-closed low high by_default None values none = subst (λ vs. IsOption (IsNumber low high) by_default vs by_default) (sym none) refl
-closed low high by_default (Some m) values none = (none, refl)
+pub one_chain : (settings : List Setting) (s t u v : ℕ) (l m : List ℕ) → AreChainOptions settings s u l → AreChainOptions settings t v m → (s ≡ t) × (u ≡ v) × (l ≡ m)
+one_chain settings s t u v l m x y = (
+  one_value 64 4096 450 _ s t (lit≤ tt) x.sized y.sized,
+  one_value 0 2147483647 3600 _ u v (lit≤ tt) x.lasting y.lasting,
+  one_option IsLabelText one_label (codes "_spf") _ l m x.labelled y.labelled,
+)
 
 -- ---- words in a row
 pub short_behind : (is_option : List ℕ → Bool) (words : List (String Global)) → length words < 2 → words_behind is_option (texts words) ≡ texts words

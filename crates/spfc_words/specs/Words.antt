@@ -10,7 +10,7 @@ use Rattle.spf_macros.specs.Words.{is_domain, is_domain_label}
 use Rattle.addr_bits.specs.Address.{SpellsAddress}
 use Rattle.addr_bits.specs.declared.address.Address.{Address}
 use Rattle.spf_model.specs.declared.outcome.Limits.{Limits}
-use Rattle.spfc_words.specs.Options.{settings_in, words_behind, is_reading_option, AreLimits}
+use Rattle.spfc_words.specs.Options.{settings_in, words_behind, is_reading_option, is_chain_option, AreLimits, AreChainOptions}
 use Rattle.spfc_words.specs.declared.job.Job.{Job}
 use Rattle.spfc_words.specs.declared.job.Job.TheVariants.{Compile, Check}
 use Rattle.spfc_words.specs.declared.zone_word.ZoneWord.{ZoneWord}
@@ -52,16 +52,17 @@ pub record AreZoneWords (words : List (List ℕ)) (zones : List ZoneWord) : Type
   pub few : length words ≤ 64
   pub own : HaveOwnOrigins zones
 
--- RFC 1035, section 2.3.4: the last name of a chain of records, `_spf10.DOMAIN`, has at most 253 characters
-abbrev pub has_room : List ℕ → Bool
-has_room domain = nat_le (length domain + length (codes "_spf10.")) 253
+-- RFC 1035, section 2.3.4: the last name of a chain of records, LABEL10.DOMAIN, has at most 253 characters
+abbrev pub has_room : (label domain : List ℕ) → Bool
+has_room label domain = nat_le (length label + length (codes "10.") + length domain) 253
 
--- `DOMAIN ORIGIN=FILE..`: the word is a domain, which is taken in lower case, and zone words stand behind it
-pub record IsCompiled (word : List ℕ) (words : List (List ℕ)) (domain : List ℕ) (zones : List ZoneWord) : Type 0 where
+-- `DOMAIN CHAIN ORIGIN=FILE..`: a domain, which is taken in lower case, options of a chain of records, and zone words
+pub record IsCompiled (word : List ℕ) (words : List (List ℕ)) (domain : List ℕ) (size ttl : ℕ) (label : List ℕ) (zones : List ZoneWord) : Type 0 where
   pub form : IsTrue (is_domain word)
-  pub room : IsTrue (has_room word)
   pub lower : domain ≡ str_to_ascii_lowercase word
-  pub behind : AreZoneWords words zones
+  pub options : AreChainOptions (settings_in is_chain_option words) size ttl label
+  pub room : IsTrue (has_room label domain)
+  pub behind : AreZoneWords (words_behind is_chain_option words) zones
 
 -- `DOMAIN ADDRESS READING ORIGIN=FILE..`: a domain, an address, options of the reading limits, and zone words
 pub record IsChecked (word address_word : List ℕ) (words : List (List ℕ)) (domain : List ℕ) (address : Address) (limits : Limits) (zones : List ZoneWord) : Type 0 where
@@ -71,9 +72,9 @@ pub record IsChecked (word address_word : List ℕ) (words : List (List ℕ)) (d
   pub reading : AreLimits (settings_in is_reading_option words) limits
   pub behind : AreZoneWords (words_behind is_reading_option words) zones
 
-abbrev pub SpellsCompile : List (List ℕ) → (domain : List ℕ) → (zones : List ZoneWord) → Type 0
-SpellsCompile [] domain zones = ⊥
-SpellsCompile (word ∷ words) domain zones = IsCompiled word words domain zones
+abbrev pub SpellsCompile : List (List ℕ) → (domain : List ℕ) → (size ttl : ℕ) → (label : List ℕ) → (zones : List ZoneWord) → Type 0
+SpellsCompile [] domain size ttl label zones = ⊥
+SpellsCompile (word ∷ words) domain size ttl label zones = IsCompiled word words domain size ttl label zones
 
 abbrev pub SpellsCheck : List (List ℕ) → (domain : List ℕ) → Address → Limits → (zones : List ZoneWord) → Type 0
 SpellsCheck [] domain address limits zones = ⊥
@@ -83,7 +84,7 @@ SpellsCheck (word ∷ address_word ∷ words) domain address limits zones = IsCh
 -- the words spell the job
 abbrev pub Spells : List (List ℕ) → Job → Type 0
 Spells [] job = ⊥
-Spells (command ∷ words) (Compile domain zones) = (command ≡ codes "compile") × SpellsCompile words domain zones
+Spells (command ∷ words) (Compile domain size ttl label zones) = (command ≡ codes "compile") × SpellsCompile words domain size ttl label zones
 Spells (command ∷ words) (Check domain address limits zones) = (command ≡ codes "check") × SpellsCheck words domain address limits zones
 
 -- words spell at most one job

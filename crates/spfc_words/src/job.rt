@@ -11,6 +11,12 @@ pub enum Job {
     Compile {
         /// The domain, in lower case and without a final dot.
         domain: Bytes,
+        /// What a record takes is less than this, in octets (RFC 7208, section 3.4).
+        size: u32,
+        /// The TTL of the records, in seconds.
+        ttl: u32,
+        /// What the names of the records behind the first begin with, in lower case.
+        label: Bytes,
         /// The zones to read.
         zones: ZoneWords,
     },

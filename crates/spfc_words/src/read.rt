@@ -1,21 +1,20 @@
 //! Reading the words.
 ghost use Rattle.std.specs.Prelude.{◌≡◌, ◌∷◌, codes, IfOk, IfSome, IfNone, MatchOption};
-ghost use Rattle.std.specs.Str.{str_to_ascii_lowercase};
 ghost use Rattle.spfc_words.specs.declared.job.Job.{Job};
-ghost use Rattle.spfc_words.specs.Words.{texts, Spells};
+ghost use Rattle.spfc_words.specs.Words.{texts, has_room, Spells};
 
 use crate::Job;
-use crate::options::{behind_options, read_limits};
+use crate::options::{ChainOptions, Group, behind_options, lowercase, read_chain, read_limits};
 use crate::zone_word::read_zones;
-use addr_bits::{Bytes, read_address};
+use addr_bits::read_address;
 use spf_macros::is_domain;
 use std::alloc::{AllocError, Global};
 
 /// The most characters of a name without its final dot (RFC 1035, section 2.3.4).
 const MAX_NAME: usize = 253;
 
-/// What the last name of a chain of records may have before the domain.
-const LAST_LABEL: &str = "_spf10.";
+/// The characters between the label and the domain in the last name of a chain of records.
+const LAST_NUMBER: &str = "10.";
 
 /// The job that the words after the program's name spell; `None` exactly where they spell none.
 pub fn read_words(alloc: Global, words: &[String]) -> Result<Option<Job>, AllocError>
@@ -32,24 +31,46 @@ pub fn read_words(alloc: Global, words: &[String]) -> Result<Option<Job>, AllocE
     }
 }
 
-// The job of a domain and zone words, which stand behind `compile`.
+// The job of a domain, options of a chain of records and zone words, which stand behind `compile`.
 fn read_compile(alloc: Global, words: &[String]) -> Result<Option<Job>, AllocError>
     ensures { IfOk result (λ job. MatchOption job
         ((any : Job) → ¬ Spells (codes "compile" ∷ texts words.now) any)
         (Spells (codes "compile" ∷ texts words.now))) }
 {
-    let [domain, zones @ ..] = words else {
+    let [domain, rest @ ..] = words else {
         return Ok(None);
     };
     let domain = domain.as_bytes();
-    if !is_domain(domain) || domain.len() + LAST_LABEL.len() > MAX_NAME {
+    if !is_domain(domain) {
         return Ok(None);
     }
-    let Some(zones) = read_zones(alloc, zones)? else {
+    let Some(ChainOptions { size, ttl, label }) = read_chain(alloc, rest)? else {
         return Ok(None);
     };
     let domain = lowercase(alloc, domain)?;
-    Ok(Some(Job::Compile { domain, zones }))
+    if !has_room(label.as_slice(), domain.as_slice()) {
+        return Ok(None);
+    }
+    let Some(zones) = read_zones(alloc, behind_options(Group::Chain, rest))? else {
+        return Ok(None);
+    };
+    Ok(Some(Job::Compile {
+        domain,
+        size,
+        ttl,
+        label,
+        zones,
+    }))
+}
+
+// Whether the last name of a chain of records is no longer than a name may be.
+fn has_room(label: &[u8], domain: &[u8]) -> bool
+    ensures { result ≡ has_room label.now domain.now }
+{
+    if label.len() > MAX_NAME || domain.len() > MAX_NAME {
+        return false;
+    }
+    label.len() + LAST_NUMBER.len() + domain.len() <= MAX_NAME
 }
 
 // The job of a domain, an address, reading options and zone words, which stand behind `check`.
@@ -71,7 +92,7 @@ fn read_check(alloc: Global, words: &[String]) -> Result<Option<Job>, AllocError
     let Some(limits) = read_limits(rest) else {
         return Ok(None);
     };
-    let Some(zones) = read_zones(alloc, behind_options(rest))? else {
+    let Some(zones) = read_zones(alloc, behind_options(Group::Reading, rest))? else {
         return Ok(None);
     };
     let domain = lowercase(alloc, domain)?;
@@ -81,12 +102,4 @@ fn read_check(alloc: Global, words: &[String]) -> Result<Option<Job>, AllocError
         limits,
         zones,
     }))
-}
-
-fn lowercase(alloc: Global, text: &[u8]) -> Result<Bytes, AllocError>
-    ensures { IfOk result (λ bytes. bytes ≡ str_to_ascii_lowercase text.now) }
-{
-    let mut bytes = Bytes::new(alloc);
-    bytes.extend_from_slice(&text.to_ascii_lowercase(alloc)?)?;
-    Ok(bytes)
 }

@@ -5,17 +5,24 @@ use std::alloc::{AllocError, Global};
 use std::process::Abort;
 use std::test::Fail;
 
-// Words that compile, and what they give: the domain, and each origin as it is printed, with its file.
+// Words that compile, and what they give: the domain, the size, the TTL and the label, and each origin as it is printed, with
+// its file.
 struct Case<'a> {
     words: &'a [&'a str],
     domain: &'a [u8],
+    size: u32,
+    ttl: u32,
+    label: &'a [u8],
     zones: &'a [(&'a [u8], &'a [u8])],
 }
 
-const JOBS: [Case<'static>; 4] = [
+const JOBS: [Case<'static>; 6] = [
     Case {
         words: &["compile", "example.com", "example.com=z"],
         domain: b"example.com",
+        size: 450,
+        ttl: 3600,
+        label: b"_spf",
         zones: &[(b"example.com", b"z")],
     },
     Case {
@@ -27,6 +34,9 @@ const JOBS: [Case<'static>; 4] = [
             ".=root",
         ],
         domain: b"example.com",
+        size: 450,
+        ttl: 3600,
+        label: b"_spf",
         zones: &[
             (b"example.org", b"a=b"),
             (b"example.com", b"="),
@@ -36,12 +46,54 @@ const JOBS: [Case<'static>; 4] = [
     Case {
         words: &["compile", "_x.a-b.c1", "1=f"],
         domain: b"_x.a-b.c1",
+        size: 450,
+        ttl: 3600,
+        label: b"_spf",
         zones: &[(b"1", b"f")],
     },
     Case {
         words: &["compile", "example.com", "a.b=--size", "b=z", "c=z"],
         domain: b"example.com",
+        size: 450,
+        ttl: 3600,
+        label: b"_spf",
         zones: &[(b"a.b", b"--size"), (b"b", b"z"), (b"c", b"z")],
+    },
+    Case {
+        words: &[
+            "compile",
+            "example.com",
+            "--label",
+            "_SPF-b",
+            "--ttl",
+            "0",
+            "--size",
+            "4096",
+            "example.com=z",
+        ],
+        domain: b"example.com",
+        size: 4096,
+        ttl: 0,
+        label: b"_spf-b",
+        zones: &[(b"example.com", b"z")],
+    },
+    Case {
+        words: &[
+            "compile",
+            "example.com",
+            "--size",
+            "64",
+            "--ttl",
+            "2147483647",
+            "--label",
+            "_",
+            "example.com=z",
+        ],
+        domain: b"example.com",
+        size: 64,
+        ttl: 2_147_483_647,
+        label: b"_",
+        zones: &[(b"example.com", b"z")],
     },
 ];
 
@@ -120,7 +172,7 @@ const NO_CHECKS: [&[&str]; 13] = [
     &["compile", "a.b", "--lookups", "11", "a.b=z"],
 ];
 
-const NO_JOBS: [&[&str]; 17] = [
+const NO_JOBS: [&[&str]; 25] = [
     &[],
     &["compile"],
     &["compile", "example.com"],
@@ -136,7 +188,15 @@ const NO_JOBS: [&[&str]; 17] = [
     &["compile", "example.com", "example.com=z", "EXAMPLE.com=y"],
     &["compile", "example.com", "a=z", "b=z", "A.=y"],
     &["compile", "example.com", "--size", "63", "example.com=z"],
-    &["compile", "example.com", "--size", "450", "example.com=z"],
+    &["compile", "example.com", "--size", "4097", "example.com=z"],
+    &["compile", "example.com", "--size", "064", "example.com=z"],
+    &["compile", "a.b", "--size", "64", "--size", "64", "a.b=z"],
+    &["compile", "a.b", "--ttl", "2147483648", "a.b=z"],
+    &["compile", "a.b", "--label", "spf", "a.b=z"],
+    &["compile", "a.b", "--label", "", "a.b=z"],
+    &["compile", "a.b", "a.b=z", "--size", "64"],
+    &["compile", "a.b", "--size"],
+    &["check", "a.b", "::1", "--label", "_spf", "a.b=z"],
     &["Compile", "example.com", "example.com=z"],
 ];
 
@@ -162,11 +222,22 @@ fn try_zone(
 }
 
 fn try_job(rt: &impl Abort, alloc: Global, case: &Case<'_>) -> Result<(), Fail> {
-    let Some(Job::Compile { domain, zones }) = read_words(alloc, &words(alloc, case.words)?)? else {
+    let Some(
+        Job::Compile {
+            domain,
+            size,
+            ttl,
+            label,
+            zones,
+        },
+    ) = read_words(alloc, &words(alloc, case.words)?)?
+    else {
         assert!(rt; false);
         return Ok(());
     };
     assert_eq!(rt; domain.as_slice(), case.domain);
+    assert_eq!(rt; (size, ttl), (case.size, case.ttl));
+    assert_eq!(rt; label.as_slice(), case.label);
     assert_eq!(rt; zones.len(), case.zones.len());
     for (zone, wanted) in zones.as_slice().iter().zip(case.zones) {
         try_zone(rt, alloc, zone, wanted)?;
