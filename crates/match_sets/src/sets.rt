@@ -20,11 +20,7 @@ fn found_bodies(answer: &Answer) -> &[Body]
 }
 
 /// Adds the addresses that agree with the host in the first `len` bits.
-fn add_network<W: Width>(
-    set: &mut TrieMap<W, bool>,
-    host: W,
-    len: u32,
-) -> Result<(), AllocError>
+fn add_network<W: Width>(set: &mut TrieMap<W, bool>, host: W, len: u32) -> Result<(), AllocError>
     requires { len ≤ W.BITS }
     ensures { OnOk result ((a : ℕ) → a < 2 ^ W.BITS → value_at W.BITS set.new a ≡ (if agrees W.BITS len (W.number host) a then Some true else value_at W.BITS set.old a)) }
 {

@@ -89,7 +89,10 @@ fn no_record_matches_no_address(rt: HostRuntime) -> Result<(), Fail> {
     let only_six = answer_of(rt.alloc(), &[], &SIX)?;
     let only_four = answer_of(rt.alloc(), &FOUR, &[])?;
     assert_eq!(rt; match4(rt.alloc(), &only_six, 0)?.least_where(|m| *m), None);
-    assert_eq!(rt; match6(rt.alloc(), &only_four, 0)?.least_where(|m| *m), None);
+    assert_eq!(rt;
+        match6(rt.alloc(), &only_four, 0)?.least_where(|m| *m),
+        None
+    );
     for other in [
         Answer::Outside,
         Answer::NoName,

@@ -5,6 +5,7 @@ use Rattle.addr_bits.specs.declared.address.Address.{Address}
 use Rattle.addr_bits.specs.declared.address.Address.TheVariants.{V4, V6}
 use Rattle.prefix_trie.specs.Leaves.{value_at}
 use Rattle.spf_grammar.specs.declared.verdict.Verdict.{Verdict}
+use Rattle.spf_grammar.specs.declared.verdict.Verdict.TheVariants.{Neutral}
 use Rattle.spf_model.specs.declared.outcome.Outcome.{Outcome}
 use Rattle.spf_model.specs.declared.outcome.Outcome.TheVariants.{Is}
 use Rattle.verdict_map.specs.declared.fault.VerdictFault.{VerdictFault}
@@ -15,10 +16,10 @@ abbrev pub has_verdict : Outcome → Bool
 has_verdict (Is verdict) = true
 has_verdict _ = false
 
--- the verdict that an outcome is, or else another one
-abbrev pub verdict_or : Outcome → Verdict → Verdict
-verdict_or (Is verdict) other = verdict
-verdict_or _ other = other
+-- the verdict that an outcome is, and neutral where it is none
+abbrev pub verdict_or_neutral : Outcome → Verdict
+verdict_or_neutral (Is verdict) = verdict
+verdict_or_neutral _ = Neutral
 
 -- what stands at an address of two tries: an outcome that is a verdict, and this verdict
 abbrev pub IsVerdictOf : Option Outcome → Option Verdict → Type 0

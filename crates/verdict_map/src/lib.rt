@@ -4,7 +4,7 @@
 mod fault;
 #[cfg(test)]
 mod tests;
-mod verdicts;
+mod tries;
 
 pub use fault::VerdictFault;
-pub use verdicts::{VerdictTries, verdicts};
+pub use tries::{VerdictTries, verdicts};

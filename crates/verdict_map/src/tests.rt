@@ -17,14 +17,22 @@ fn open(rt: &impl Abort, cause: Cause, term: u32) -> Outcome {
 }
 
 /// `Pass` everywhere, but at the address this outcome.
-fn four(alloc: Global, address: u32, outcome: Outcome) -> Result<TrieMap<u32, Outcome>, AllocError> {
+fn four(
+    alloc: Global,
+    address: u32,
+    outcome: Outcome,
+) -> Result<TrieMap<u32, Outcome>, AllocError> {
     let mut outcomes = TrieMap::whole(alloc, Outcome::Is(Verdict::Pass))?;
     outcomes.set(Prefix::new(address, 32), outcome)?;
     Ok(outcomes)
 }
 
 /// `SoftFail` everywhere, but at the address this outcome.
-fn six(alloc: Global, address: u128, outcome: Outcome) -> Result<TrieMap<u128, Outcome>, AllocError> {
+fn six(
+    alloc: Global,
+    address: u128,
+    outcome: Outcome,
+) -> Result<TrieMap<u128, Outcome>, AllocError> {
     let mut outcomes = TrieMap::whole(alloc, Outcome::Is(Verdict::SoftFail))?;
     outcomes.set(Prefix::new(address, 128), outcome)?;
     Ok(outcomes)
@@ -72,7 +80,11 @@ fn the_least_ipv6_address_is_refused(rt: HostRuntime) -> Result<(), Fail> {
         let mut v6 = six(rt.alloc(), address, open(&rt, Cause::Outside, 7))?;
         v6.set(Prefix::new(u128::MAX, 128), open(&rt, Cause::Reverse, 2))?;
         let told = refused(verdicts(rt.alloc(), &v4, &v6).err());
-        let cause = if address == 0 { open(&rt, Cause::Outside, 7) } else { open(&rt, Cause::Reverse, 2) };
+        let cause = if address == 0 {
+            open(&rt, Cause::Outside, 7)
+        } else {
+            open(&rt, Cause::Reverse, 2)
+        };
         assert!(rt; told == Some((Address::V6(address), cause)));
     }
     Ok(())

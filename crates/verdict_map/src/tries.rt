@@ -1,7 +1,7 @@
 //! Verdicts from outcomes.
-ghost use Rattle.std.specs.Prelude.{◌≡◌, ◌<◌, ◌^◌, ℕ, IfOk, IfErr, IfSome, IfNone, IsSomeAnd, Some};
+ghost use Rattle.std.specs.Prelude.{◌≡◌, ◌<◌, ◌^◌, ℕ, IfOk, IfErr, IfSome, IfNone, option_map};
 ghost use Rattle.prefix_trie.specs.Leaves.{value_at};
-ghost use Rattle.verdict_map.specs.Verdicts.{has_verdict, verdict_or, IsVerdictOf, HaveVerdicts, IsLeastWithout, IsFault};
+ghost use Rattle.verdict_map.specs.Verdicts.{has_verdict, verdict_or_neutral, IsVerdictOf, HaveVerdicts, IsLeastWithout, IsFault};
 
 use crate::VerdictFault;
 use addr_bits::{Address, Width};
@@ -24,13 +24,13 @@ fn is_verdict(outcome: &Outcome) -> bool
     matches!(outcome, Outcome::Is(_))
 }
 
-/// The verdict that the outcome is, or else the other one.
-fn verdict_of(outcome: &Outcome, other: Verdict) -> Verdict
-    ensures { result ≡ verdict_or outcome.now other }
+/// The verdict that the outcome is, and neutral where it is none.
+fn verdict_of(outcome: &Outcome) -> Verdict
+    ensures { result ≡ verdict_or_neutral outcome.now }
 {
     match outcome {
         Outcome::Is(verdict) => *verdict,
-        _ => other,
+        _ => Verdict::Neutral,
     }
 }
 
@@ -55,18 +55,20 @@ fn verdicts_of<W: Width>(
     alloc: Global,
     outcomes: &TrieMap<W, Outcome>,
 ) -> Result<TrieMap<W, Verdict>, AllocError>
-    requires { HaveVerdicts W.BITS outcomes.now }
-    ensures { IfOk result (λ verdicts. (a : ℕ) → a < 2 ^ W.BITS → IsVerdictOf (value_at W.BITS outcomes.now a) (value_at W.BITS verdicts a)) }
+    ensures { IfOk result (λ verdicts. (a : ℕ) → a < 2 ^ W.BITS → value_at W.BITS verdicts a ≡ option_map verdict_or_neutral (value_at W.BITS outcomes.now a)) }
 {
-    let neutral = TrieMap::whole(alloc, Verdict::Neutral)?;
-    TrieMap::combine(alloc, outcomes, &neutral, |outcome, other| {
-        Ok(verdict_of(outcome, *other))
-    })
+    TrieMap::combine(
+        alloc,
+        outcomes,
+        outcomes,
+        |outcome, _| Ok(verdict_of(outcome)),
+    )
 }
 
 /// The verdict of every address. `Refused` comes exactly where some address has an outcome that is no verdict, with the
 /// least IPv4 address of that kind, or where there is none the least IPv6 address, and its outcome; `Memory` where there is
 /// no memory.
+#[tactic(auto, using(crate::proofs::Outcomes::verdict_of_outcome))]
 pub fn verdicts(
     alloc: Global,
     v4: &TrieMap<u32, Outcome>,
