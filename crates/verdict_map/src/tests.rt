@@ -1,7 +1,7 @@
 //! Verdicts, and refusals at the edges of both families.
 
 use super::*;
-use addr_bits::{Address, Prefix};
+use addr_bits::{Address, Prefix, Width};
 use dns_name::Name;
 use prefix_trie::TrieMap;
 use spf_grammar::Verdict;
@@ -16,32 +16,30 @@ fn open(rt: &impl Abort, cause: Cause, term: u32) -> Outcome {
     Outcome::Unsettled(cause, Place { name, term })
 }
 
-/// `Pass` everywhere, but at the address this outcome.
-fn four(
+/// The verdict at every address, but at this one the outcome.
+fn all_but<W: Width>(
     alloc: Global,
-    address: u32,
-    outcome: Outcome,
-) -> Result<TrieMap<u32, Outcome>, AllocError> {
-    let mut outcomes = TrieMap::whole(alloc, Outcome::Is(Verdict::Pass))?;
-    outcomes.set(Prefix::new(address, 32), outcome)?;
-    Ok(outcomes)
-}
-
-/// `SoftFail` everywhere, but at the address this outcome.
-fn six(
-    alloc: Global,
-    address: u128,
-    outcome: Outcome,
-) -> Result<TrieMap<u128, Outcome>, AllocError> {
-    let mut outcomes = TrieMap::whole(alloc, Outcome::Is(Verdict::SoftFail))?;
-    outcomes.set(Prefix::new(address, 128), outcome)?;
-    Ok(outcomes)
+    verdict: Verdict,
+    address: W,
+    outcome: &Outcome,
+) -> Result<TrieMap<W, Outcome>, AllocError> {
+    let mut marks = TrieMap::whole(alloc, false)?;
+    marks.set(Prefix::new(address, W::BITS), true)?;
+    TrieMap::combine(alloc, &marks, &marks, |mark, _| {
+        if *mark {
+            outcome.clone()
+        } else {
+            Ok(Outcome::Is(verdict))
+        }
+    })
 }
 
 #[test]
 fn each_address_has_its_verdict(rt: HostRuntime) -> Result<(), Fail> {
-    let v4 = four(rt.alloc(), 0xffff_ffff, Outcome::Is(Verdict::Fail))?;
-    let v6 = six(rt.alloc(), 0, Outcome::Is(Verdict::Neutral))?;
+    let fail = Outcome::Is(Verdict::Fail);
+    let neutral = Outcome::Is(Verdict::Neutral);
+    let v4 = all_but(rt.alloc(), Verdict::Pass, 0xffff_ffff, &fail)?;
+    let v6 = all_but(rt.alloc(), Verdict::SoftFail, 0, &neutral)?;
     match verdicts(rt.alloc(), &v4, &v6) {
         Ok(tries) => {
             assert_eq!(rt; *tries.v4.at(0xffff_ffff), Verdict::Fail);
@@ -64,28 +62,24 @@ fn refused(fault: Option<VerdictFault>) -> Option<(Address, Outcome)> {
 
 #[test]
 fn the_least_ipv4_address_is_refused(rt: HostRuntime) -> Result<(), Fail> {
-    let v6 = six(rt.alloc(), 0, open(&rt, Cause::Outside, 7))?;
     for address in [0, 0xffff_ffff] {
-        let v4 = four(rt.alloc(), address, open(&rt, Cause::Sender, 3))?;
+        let four = open(&rt, Cause::Sender, 3);
+        let v4 = all_but(rt.alloc(), Verdict::Pass, address, &four)?;
+        let v6 = all_but(rt.alloc(), Verdict::Pass, 0, &open(&rt, Cause::Outside, 7))?;
         let told = refused(verdicts(rt.alloc(), &v4, &v6).err());
-        assert!(rt; told == Some((Address::V4(address), open(&rt, Cause::Sender, 3))));
+        assert!(rt; told == Some((Address::V4(address), four)));
     }
     Ok(())
 }
 
 #[test]
 fn the_least_ipv6_address_is_refused(rt: HostRuntime) -> Result<(), Fail> {
-    let v4 = TrieMap::whole(rt.alloc(), Outcome::Is(Verdict::Pass))?;
     for address in [0, u128::MAX] {
-        let mut v6 = six(rt.alloc(), address, open(&rt, Cause::Outside, 7))?;
-        v6.set(Prefix::new(u128::MAX, 128), open(&rt, Cause::Reverse, 2))?;
+        let v4 = TrieMap::whole(rt.alloc(), Outcome::Is(Verdict::Pass))?;
+        let six = open(&rt, Cause::Outside, 7);
+        let v6 = all_but(rt.alloc(), Verdict::Pass, address, &six)?;
         let told = refused(verdicts(rt.alloc(), &v4, &v6).err());
-        let cause = if address == 0 {
-            open(&rt, Cause::Outside, 7)
-        } else {
-            open(&rt, Cause::Reverse, 2)
-        };
-        assert!(rt; told == Some((Address::V6(address), cause)));
+        assert!(rt; told == Some((Address::V6(address), six)));
     }
     Ok(())
 }
