@@ -1,5 +1,5 @@
 -- Outcomes that are verdicts, and the verdicts that they are.
-use Rattle.std.proofs.Common.{◌≡◌, Bool, true, false, Option, Some, None, refl}
+use Rattle.std.proofs.Common.{◌≡◌, true, false, Option, Some, None, refl}
 use Rattle.std.specs.Prelude.{IsSomeAnd, option_map}
 use Rattle.spf_grammar.specs.declared.verdict.Verdict.{Verdict}
 use Rattle.spf_model.specs.declared.outcome.Outcome.{Outcome}
