@@ -1,0 +1,8 @@
+//! The addresses that an answer matches, as sets.
+#![tactic(auto)]
+
+mod sets;
+#[cfg(test)]
+mod tests;
+
+pub use sets::{match4, match6};

@@ -1,0 +1,10 @@
+//! The verdict of every address, or the least address that has none.
+#![tactic(auto)]
+
+mod fault;
+#[cfg(test)]
+mod tests;
+mod tries;
+
+pub use fault::VerdictFault;
+pub use tries::{VerdictTries, verdicts};

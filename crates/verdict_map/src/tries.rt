@@ -1,0 +1,97 @@
+//! Verdicts from outcomes.
+ghost use Rattle.std.specs.Prelude.{◌≡◌, ◌<◌, ◌^◌, ℕ, IfOk, IfErr, IfSome, IfNone, option_map};
+ghost use Rattle.prefix_trie.specs.Leaves.{value_at};
+ghost use Rattle.verdict_map.specs.Verdicts.{has_verdict, verdict_or_neutral, IsVerdictOf, HaveVerdicts, IsLeastWithout, IsFault};
+
+use crate::VerdictFault;
+use addr_bits::{Address, Width};
+use prefix_trie::TrieMap;
+use spf_grammar::Verdict;
+use spf_model::Outcome;
+use std::alloc::{AllocError, Global};
+
+/// The verdict of every address, as a trie for each family.
+#[derive(Drop)]
+pub struct VerdictTries {
+    pub v4: TrieMap<u32, Verdict>,
+    pub v6: TrieMap<u128, Verdict>,
+}
+
+/// Whether the outcome is a verdict.
+fn is_verdict(outcome: &Outcome) -> bool
+    ensures { result ≡ has_verdict outcome.now }
+{
+    matches!(outcome, Outcome::Is(_))
+}
+
+/// The verdict that the outcome is, and neutral where it is none.
+fn verdict_of(outcome: &Outcome) -> Verdict
+    ensures { result ≡ verdict_or_neutral outcome.now }
+{
+    match outcome {
+        Outcome::Is(verdict) => *verdict,
+        _ => Verdict::Neutral,
+    }
+}
+
+/// The least address whose outcome is no verdict, and this outcome.
+fn least_without<W: Width>(
+    outcomes: &TrieMap<W, Outcome>,
+) -> Result<Option<(W, Outcome)>, AllocError>
+    ensures found { IfOk result (λ least. IfSome least (λ pair. IsLeastWithout W.BITS outcomes.now (W.number pair.0) pair.1)) }
+    ensures none { IfOk result (λ least. IfNone least (HaveVerdicts W.BITS outcomes.now)) }
+{
+    match outcomes.least_where(|outcome| !is_verdict(outcome)) {
+        Some(address) => {
+            let outcome = outcomes.at(address).clone()?;
+            Ok(Some((address, outcome)))
+        }
+        None => Ok(None),
+    }
+}
+
+/// The verdict at each address, and neutral where the outcome is none.
+fn verdicts_of<W: Width>(
+    alloc: Global,
+    outcomes: &TrieMap<W, Outcome>,
+) -> Result<TrieMap<W, Verdict>, AllocError>
+    ensures { IfOk result (λ verdicts. (a : ℕ) → a < 2 ^ W.BITS → value_at W.BITS verdicts a ≡ option_map verdict_or_neutral (value_at W.BITS outcomes.now a)) }
+{
+    TrieMap::combine(
+        alloc,
+        outcomes,
+        outcomes,
+        |outcome, _| Ok(verdict_of(outcome)),
+    )
+}
+
+/// The verdict of every address. `Refused` comes exactly where some address has an outcome that is no verdict, with the
+/// least IPv4 address of that kind, or where there is none the least IPv6 address, and its outcome; `Memory` where there is
+/// no memory.
+#[tactic(auto, using(crate::proofs::Outcomes::verdict_of_outcome))]
+pub fn verdicts(
+    alloc: Global,
+    v4: &TrieMap<u32, Outcome>,
+    v6: &TrieMap<u128, Outcome>,
+) -> Result<VerdictTries, VerdictFault>
+    ensures four { IfOk result (λ tries. (a : ℕ) → a < 2 ^ 32 → IsVerdictOf (value_at 32 v4.now a) (value_at 32 tries.v4 a)) }
+    ensures six { IfOk result (λ tries. (a : ℕ) → a < 2 ^ 128 → IsVerdictOf (value_at 128 v6.now a) (value_at 128 tries.v6 a)) }
+    ensures fault { IfErr result (IsFault v4.now v6.now) }
+{
+    if let Some((a, outcome)) = least_without(v4)? {
+        return Err(VerdictFault::Refused {
+            address: Address::V4(a),
+            outcome,
+        });
+    }
+    if let Some((a, outcome)) = least_without(v6)? {
+        return Err(VerdictFault::Refused {
+            address: Address::V6(a),
+            outcome,
+        });
+    }
+    Ok(VerdictTries {
+        v4: verdicts_of(alloc, v4)?,
+        v6: verdicts_of(alloc, v6)?,
+    })
+}
