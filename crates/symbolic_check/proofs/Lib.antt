@@ -1,0 +1,4 @@
+pub mod Following
+pub mod Walking
+pub mod Stepping
+pub mod Combining

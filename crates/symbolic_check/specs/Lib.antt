@@ -1,0 +1,4 @@
+pub mod Steps
+pub mod Walk
+pub mod Networks
+pub mod Laws

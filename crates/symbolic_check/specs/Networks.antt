@@ -1,0 +1,59 @@
+-- A row of network terms as one step of the walk (the project's own form).
+use Rattle.std.specs.Prelude.{ℕ, Bool, true, false, List, [], ◌∷◌, Option, Some, None, if◌then◌else◌}
+use Rattle.addr_bits.specs.declared.address.Address.{Address}
+use Rattle.addr_bits.specs.Prefix.{Cidr}
+use Rattle.spf_grammar.specs.Flat.{agrees, covers}
+use Rattle.spf_grammar.specs.declared.flat.Net.TheVariants as net
+use Rattle.spf_grammar.specs.declared.verdict.Verdict.{Verdict}
+use Rattle.spf_grammar.specs.declared.policy.Mechanism.{Mechanism}
+use Rattle.spf_grammar.specs.declared.policy.Mechanism.TheVariants.{All, Include, A, Mx, Ptr, Ip4, Ip6, Exists}
+use Rattle.spf_grammar.specs.declared.policy.Term.{Term}
+use Rattle.spf_grammar.specs.declared.policy.Term.TheVariants.{Directive, Redirect, Exp, Unknown}
+
+-- RFC 7208, section 5.6: a mechanism that asks nothing and matches by the address alone
+abbrev pub is_network : Mechanism → Bool
+is_network (Ip4 p) = true
+is_network (Ip6 p) = true
+is_network All = false
+is_network (Include spec) = false
+is_network (A spec len4 len6) = false
+is_network (Mx spec len4 len6) = false
+is_network (Ptr spec) = false
+is_network (Exists spec) = false
+
+abbrev pub network_covers : Mechanism → Address → Bool
+network_covers (Ip4 p) a = covers (net.V4 p) a
+network_covers (Ip6 p) a = covers (net.V6 p) a
+network_covers All a = false
+network_covers (Include spec) a = false
+network_covers (A spec len4 len6) a = false
+network_covers (Mx spec len4 len6) a = false
+network_covers (Ptr spec) a = false
+network_covers (Exists spec) a = false
+
+-- a directive with a network
+abbrev pub is_network_term : Term → Bool
+is_network_term (Directive verdict mechanism) = is_network mechanism
+is_network_term (Redirect spec) = false
+is_network_term (Exp spec) = false
+is_network_term (Unknown name value) = false
+
+-- what a directive's network makes of what is found behind it
+abbrev pub with_first : Term → Address → Option (Option Verdict) → Option (Option Verdict)
+with_first (Directive verdict mechanism) a behind = if network_covers mechanism a then Some (Some verdict) else behind
+with_first (Redirect spec) a behind = behind
+with_first (Exp spec) a behind = behind
+with_first (Unknown name value) a behind = behind
+
+-- the verdict of the first of these directives whose network covers the address
+abbrev pub first_network : List Term → Address → Option Verdict
+first_network [] a = None
+first_network (Directive verdict mechanism ∷ terms) a = if network_covers mechanism a then Some verdict else first_network terms a
+first_network (Redirect spec ∷ terms) a = first_network terms a
+first_network (Exp spec ∷ terms) a = first_network terms a
+first_network (Unknown name value ∷ terms) a = first_network terms a
+
+-- the address lies in the network, if there is one
+abbrev pub is_in : (bits : ℕ) → Option Cidr → ℕ → Bool
+is_in bits None a = false
+is_in bits (Some p) a = agrees bits p a

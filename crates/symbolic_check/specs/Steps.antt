@@ -1,0 +1,48 @@
+-- What a step of the walk makes of what stands at one address (the project's own form).
+use Rattle.std.specs.Prelude.{ℕ, ◌+◌, Bool, true, false, nat_le, Option, Some, None, if◌then◌else◌}
+use Rattle.spf_grammar.specs.declared.verdict.Verdict.{Verdict}
+use Rattle.spf_model.specs.declared.outcome.Limits.{Limits}
+use Rattle.spf_model.specs.declared.outcome.Cause.TheVariants as cause
+use Rattle.spf_model.specs.declared.outcome.Place.{Place}
+use Rattle.spf_model.specs.declared.outcome.Outcome.{Outcome}
+use Rattle.spf_model.specs.declared.outcome.Outcome.TheVariants.{Perm}
+use Rattle.symbolic_check.specs.declared.state.State.{State}
+use Rattle.symbolic_check.specs.declared.state.State.TheVariants.{Live, Decided, Failed}
+
+abbrev pub is_live : State → Bool
+is_live (Live counts) = true
+is_live (Decided verdict counts) = false
+is_live (Failed outcome) = false
+
+-- RFC 7208, section 4.6.4: a term that asks the DNS counts one lookup, which must be within the limit
+abbrev pub after_lookup : Limits → Place → State → State
+after_lookup limits place (Live counts) =
+    if nat_le (counts.lookups + 1) limits.lookups then Live (record counts { lookups = counts.lookups + 1 }) else Failed (Perm cause.Lookups place)
+after_lookup limits place (Decided verdict counts) = Decided verdict counts
+after_lookup limits place (Failed outcome) = Failed outcome
+
+-- RFC 7208, section 4.6.4: a term of which some answer was void counts one void lookup, which must be within the limit
+abbrev pub after_void : Limits → Place → Bool → State → State
+after_void limits place false state = state
+after_void limits place true (Live counts) =
+    if nat_le (counts.voids + 1) limits.voids then Live (record counts { voids = counts.voids + 1 }) else Failed (Perm cause.Voids place)
+after_void limits place true (Decided verdict counts) = Decided verdict counts
+after_void limits place true (Failed outcome) = Failed outcome
+
+-- RFC 7208, section 4.6.2: a directive that matches gives its verdict
+abbrev pub after_match : Verdict → Bool → State → State
+after_match verdict false state = state
+after_match verdict true (Live counts) = Decided verdict counts
+after_match verdict true (Decided other counts) = Decided other counts
+after_match verdict true (Failed outcome) = Failed outcome
+
+-- a term that ends every evaluation that comes to it
+abbrev pub after_failure : Outcome → State → State
+after_failure outcome (Live counts) = Failed outcome
+after_failure outcome (Decided verdict counts) = Decided verdict counts
+after_failure outcome (Failed other) = Failed other
+
+-- a row of networks, of which the first that has the address gives this verdict
+abbrev pub after_networks : Option Verdict → State → State
+after_networks None state = state
+after_networks (Some verdict) state = after_match verdict true state

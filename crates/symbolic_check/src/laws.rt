@@ -1,0 +1,12 @@
+//! What holds of every walk. The functions do nothing: what they promise is the law.
+ghost use Rattle.symbolic_check.specs.Laws.{FollowsTwice, WalksTwice};
+
+/// What is left of what is left of a run is left of the run.
+pub fn follows_twice()
+    ensures { FollowsTwice }
+{}
+
+/// Two walks one after the other are a walk over both stretches.
+pub fn walks_twice()
+    ensures { WalksTwice }
+{}

@@ -1,0 +1,90 @@
+//! A row of directives with networks (RFC 7208, section 5.6), as one trie.
+ghost use Rattle.std.specs.Prelude.{◌≡◌, ◌<◌, ◌^◌, ℕ, IfOk, OnOk, Some, if◌then◌else◌};
+ghost use Rattle.prefix_trie.specs.Leaves.{value_at};
+ghost use Rattle.symbolic_check.specs.Networks.{network_covers, first_network, with_first, is_in};
+
+use addr_bits::{Prefix, Width};
+use prefix_trie::TrieMap;
+use spf_grammar::{Mechanism, Term, Verdict};
+use std::alloc::{AllocError, Global};
+
+/// The addresses of one family.
+pub(crate) trait FamilyWidth: Width {
+    ghost use Rattle.addr_bits.specs.declared.address.Address.{Address};
+
+    // The address with a number.
+    ghost address: { ℕ → Address };
+
+    /// The network of a mechanism, where it is one of this family.
+    fn network(mechanism: &Mechanism) -> Option<Prefix<Self>>
+        ensures { (a : ℕ) → network_covers mechanism.now (address a) ≡ is_in Self.BITS result a };
+}
+
+impl FamilyWidth for u32 {
+    ghost use Rattle.addr_bits.specs.declared.address.Address.TheVariants.{V4};
+
+    ghost address = { V4 };
+
+    fn network(mechanism: &Mechanism) -> Option<Prefix<u32>> {
+        match mechanism {
+            Mechanism::Ip4(prefix) => Some(*prefix),
+            _ => None,
+        }
+    }
+}
+
+impl FamilyWidth for u128 {
+    ghost use Rattle.addr_bits.specs.declared.address.Address.TheVariants.{V6};
+
+    ghost address = { V6 };
+
+    fn network(mechanism: &Mechanism) -> Option<Prefix<u128>> {
+        match mechanism {
+            Mechanism::Ip6(prefix) => Some(*prefix),
+            _ => None,
+        }
+    }
+}
+
+/// Gives each address of a network the verdict.
+fn set_network<W: Width>(
+    found: &mut TrieMap<W, Option<Verdict>>,
+    network: Option<Prefix<W>>,
+    verdict: Verdict,
+) -> Result<(), AllocError>
+    ensures { OnOk result ((a : ℕ) → a < 2 ^ W.BITS
+        → value_at W.BITS found.new a ≡ (if is_in W.BITS network a then Some (Some verdict) else value_at W.BITS found.old a)) }
+{
+    match network {
+        Some(prefix) => found.set(prefix, Some(verdict)),
+        None => Ok(()),
+    }
+}
+
+/// Gives each address of a directive's network its verdict.
+fn set_term<W: FamilyWidth>(
+    found: &mut TrieMap<W, Option<Verdict>>,
+    term: &Term,
+) -> Result<(), AllocError>
+    ensures { OnOk result ((a : ℕ) → a < 2 ^ W.BITS
+        → value_at W.BITS found.new a ≡ with_first term.now (W.address a) (value_at W.BITS found.old a)) }
+{
+    match term {
+        Term::Directive(verdict, mechanism) => set_network(found, W::network(mechanism), *verdict),
+        _ => Ok(()),
+    }
+}
+
+/// At each address the verdict of the first of these directives whose network has it.
+pub(crate) fn first_networks<W: FamilyWidth>(
+    alloc: Global,
+    terms: &[Term],
+) -> Result<TrieMap<W, Option<Verdict>>, AllocError>
+    ensures { IfOk result (λ found. (a : ℕ) → a < 2 ^ W.BITS → value_at W.BITS found a ≡ Some (first_network terms.now (W.address a))) }
+{
+    let mut found = TrieMap::whole(alloc, None)?;
+    for i in (0..terms.len()).rev() {
+        set_term(&mut found, &terms[i])?;
+    }
+    Ok(found)
+}

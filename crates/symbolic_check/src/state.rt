@@ -1,0 +1,97 @@
+//! What stands at an address in the midst of a record, and what a step makes of it.
+ghost use Rattle.std.specs.Prelude.{◌≡◌, IfOk};
+ghost use Rattle.symbolic_check.specs.Steps as step;
+
+use spf_grammar::Verdict;
+use spf_model::{Cause, Counts, Limits, Outcome, Place};
+use std::alloc::AllocError;
+
+/// What stands at an address in the midst of a record.
+#[derive(Clone, Drop, PartialEq, Eq)]
+pub(crate) enum State {
+    /// No directive has matched so far.
+    Live(Counts),
+    /// The record has come to a verdict.
+    Decided(Verdict, Counts),
+    /// The evaluation has ended with an outcome that is no verdict.
+    Failed(Outcome),
+}
+
+impl State {
+    /// Whether no directive has matched so far.
+    pub(crate) fn is_live(&self) -> bool
+        ensures { result ≡ step.is_live self.now }
+    {
+        matches!(self, State::Live(_))
+    }
+
+    /// What stands here after a term that asks the DNS is counted (RFC 7208, section 4.6.4).
+    pub(crate) fn after_lookup(&self, limits: Limits, place: &Place) -> Result<State, AllocError>
+        ensures { IfOk result (λ state. state ≡ step.after_lookup limits place.now self.now) }
+    {
+        let State::Live(counts) = self else {
+            return self.clone();
+        };
+        if counts.lookups >= limits.lookups {
+            return Ok(State::Failed(Outcome::Perm(Cause::Lookups, place.clone()?)));
+        }
+        Ok(State::Live(Counts {
+            lookups: counts.lookups + 1,
+            voids: counts.voids,
+        }))
+    }
+
+    /// What stands here after a term that got a void answer, or none, is counted (RFC 7208, section 4.6.4).
+    pub(crate) fn after_void(
+        &self,
+        limits: Limits,
+        place: &Place,
+        void: bool,
+    ) -> Result<State, AllocError>
+        ensures { IfOk result (λ state. state ≡ step.after_void limits place.now void self.now) }
+    {
+        let State::Live(counts) = self else {
+            return self.clone();
+        };
+        if !void {
+            return Ok(State::Live(*counts));
+        }
+        if counts.voids >= limits.voids {
+            return Ok(State::Failed(Outcome::Perm(Cause::Voids, place.clone()?)));
+        }
+        Ok(State::Live(Counts {
+            lookups: counts.lookups,
+            voids: counts.voids + 1,
+        }))
+    }
+
+    /// What stands here after a directive that matches, or doesn't (RFC 7208, section 4.6.2).
+    pub(crate) fn after_match(&self, verdict: Verdict, matches: bool) -> Result<State, AllocError>
+        ensures { IfOk result (λ state. state ≡ step.after_match verdict matches self.now) }
+    {
+        match self {
+            State::Live(counts) if matches => Ok(State::Decided(verdict, *counts)),
+            _ => self.clone(),
+        }
+    }
+
+    /// What stands here after a term that ends every evaluation that comes to it, with an outcome that is no verdict.
+    pub(crate) fn after_failure(&self, outcome: &Outcome) -> Result<State, AllocError>
+        ensures { IfOk result (λ state. state ≡ step.after_failure outcome.now self.now) }
+    {
+        match self {
+            State::Live(_) => Ok(State::Failed(outcome.clone()?)),
+            _ => self.clone(),
+        }
+    }
+
+    /// What stands here after a row of networks, of which the first that has the address gives this verdict.
+    pub(crate) fn after_networks(&self, found: Option<Verdict>) -> Result<State, AllocError>
+        ensures { IfOk result (λ state. state ≡ step.after_networks found self.now) }
+    {
+        match found {
+            Some(verdict) => self.after_match(verdict, true),
+            None => self.clone(),
+        }
+    }
+}
