@@ -63,10 +63,16 @@ stands_twice zones asked more first next within (Some s) (Some t) (Some u) h g =
 abbrev pub WasLive : Answering → List Question → Stretch → Option State → Counts → Type 0
 WasLive zones asked first old d = (c : Counts) × (old ≡ Some (Live c)) × ((go : Counts → Run) → Follows zones asked (first c go) (go d))
 
+live_not_decided : {c d : Counts} {v : Verdict} → Live d ≡ Decided v c → ⊥
+live_not_decided e = cc
+
+live_not_failed : {d : Counts} {o : Outcome} → Live d ≡ Failed o → ⊥
+live_not_failed e = cc
+
 live_from : (zones : Answering) (asked : List Question) (first : Stretch) (old : State) (d : Counts) → Moves zones asked first old (Live d) → WasLive zones asked first (Some old) d
 live_from zones asked first (Live c) d h = (c, refl, h)
-live_from zones asked first (Decided v c) d h = search h
-live_from zones asked first (Failed o) d h = search h
+live_from zones asked first (Decided v c) d h = absurd (live_not_decided h)
+live_from zones asked first (Failed o) d h = absurd (live_not_failed h)
 
 live_before : (zones : Answering) (asked : List Question) (first : Stretch) (old mid : Option State) (d : Counts) → mid ≡ Some (Live d)
     → IsSomeAnd old (λ s. IsSomeAnd mid (Moves zones asked first s)) → WasLive zones asked first old d
