@@ -42,3 +42,6 @@ fn words_of(alloc: Global, args: env::Args) -> Result<Vec<String>, AllocError> {
     }
     Ok(words)
 }
+
+#[cfg(test)]
+mod tests;
