@@ -47,7 +47,7 @@ fn is_pass(verdict: Verdict) -> bool
 }
 
 /// The redirect of a record, with the number of its term (RFC 7208, section 6.1).
-fn redirect_of(terms: &[Term]) -> Option<(u32, &MacroText)>
+pub fn redirect_of(terms: &[Term]) -> Option<(u32, &MacroText)>
     ensures { option_map (λ r. (r.0, r.1.now)) result ≡ checking.redirect_from 1 terms.now }
 {
     let mut number = 1u32;

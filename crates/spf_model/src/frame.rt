@@ -29,8 +29,8 @@ pub(crate) struct Frame<'a> {
     pub(crate) name: &'a Name,
 }
 
-/// The cause of a need.
-fn cause_of(need: Need) -> Cause
+/// The cause of what an expansion needs.
+pub fn cause_of(need: Need) -> Cause
     ensures { result ≡ judging.cause_of need }
 {
     match need {
@@ -51,9 +51,9 @@ fn family_of(address: Address) -> Family
     }
 }
 
-/// The name that a text writes.
+/// The name that a text writes (RFC 1034, section 3.1), if it writes one.
 #[tactic(auto, unfolding(crate::specs::Judging::name_of))]
-pub(crate) fn name_of(text: &[u8]) -> Option<Name>
+pub fn name_of(text: &[u8]) -> Option<Name>
     ensures { result ≡ judging.name_of text.now }
 {
     Name::from_text(text).ok()

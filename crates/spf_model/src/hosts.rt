@@ -35,14 +35,14 @@ fn address_kind(address: Address) -> QKind
 }
 
 /// Whether there is no such name or no such record (RFC 7208, section 4.6.4).
-fn is_void(answer: &Answer) -> bool
+pub fn is_void(answer: &Answer) -> bool
     ensures { result ≡ judging.is_void answer.now }
 {
     matches!(answer, Answer::NoName | Answer::NoData)
 }
 
-/// The bodies that were found.
-fn bodies_of(answer: &Answer) -> &[Body]
+/// The bodies that were found; none where the answer is of another kind.
+pub fn bodies_of(answer: &Answer) -> &[Body]
     ensures { result.now ≡ judging.bodies_of answer.now }
 {
     match answer {
@@ -85,8 +85,9 @@ fn exchange_of(body: &Body) -> Option<&Name>
     }
 }
 
-/// The exchanges of MX records, in order.
-fn exchanges_of(alloc: Global, bodies: &[Body]) -> Result<Vec<&Name>, AllocError>
+/// The exchanges of MX records, in order (RFC 7208, section 5.4); a root exchange is skipped. `AllocError` where there is no
+/// memory.
+pub fn exchanges_of(alloc: Global, bodies: &[Body]) -> Result<Vec<&Name>, AllocError>
     ensures { IfOk result (λ exchanges. map (λ name. name.now) exchanges.items ≡ filter_map judging.exchange_of bodies.now) }
 {
     let mut exchanges = Vec::new(alloc);

@@ -81,7 +81,7 @@ pub enum Outcome {
 
 /// Why a part of an evaluation hands nothing on.
 #[derive(Drop)]
-pub(crate) enum Halt {
+pub enum Halt {
     /// The evaluation has ended.
     Ended(Outcome),
     /// There is no memory.

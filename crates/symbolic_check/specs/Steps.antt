@@ -1,12 +1,17 @@
 -- What a step of the walk makes of what stands at one address (the project's own form).
 use Rattle.std.specs.Prelude.{ℕ, ◌+◌, Bool, true, false, nat_le, Option, Some, None, if◌then◌else◌}
 use Rattle.spf_grammar.specs.declared.verdict.Verdict.{Verdict}
+use Rattle.spf_grammar.specs.declared.verdict.Verdict.TheVariants.{Neutral}
+use Rattle.spf_model.specs.declared.outcome.Counts.{Counts}
+use Rattle.spf_model.specs.Judging.{is_pass}
 use Rattle.spf_model.specs.declared.outcome.Limits.{Limits}
 use Rattle.spf_model.specs.declared.outcome.Cause.TheVariants as cause
 use Rattle.spf_model.specs.declared.outcome.Place.{Place}
 use Rattle.spf_model.specs.declared.outcome.Outcome.{Outcome}
-use Rattle.spf_model.specs.declared.outcome.Outcome.TheVariants.{Perm}
+use Rattle.spf_model.specs.declared.outcome.Outcome.TheVariants.{Nothing, Is, Perm, Temp, Unsettled}
 use Rattle.symbolic_check.specs.declared.state.State.{State}
+use Rattle.symbolic_check.specs.declared.state.Purpose.{Purpose}
+use Rattle.symbolic_check.specs.declared.state.Purpose.TheVariants.{Include, Redirect}
 use Rattle.symbolic_check.specs.declared.state.State.TheVariants.{Live, Decided, Failed}
 
 abbrev pub is_live : State → Bool
@@ -41,6 +46,42 @@ abbrev pub after_failure : Outcome → State → State
 after_failure outcome (Live counts) = Failed outcome
 after_failure outcome (Decided verdict counts) = Decided verdict counts
 after_failure outcome (Failed other) = Failed other
+
+-- RFC 7208, section 5.2: a record that is asked for is evaluated for the addresses that are live; the others stand there alike
+abbrev pub entered : State → State
+entered (Live counts) = Live counts
+entered (Decided verdict counts) = Decided Neutral (record { lookups = 0; voids = 0 })
+entered (Failed outcome) = Decided Neutral (record { lookups = 0; voids = 0 })
+
+-- RFC 7208, sections 5.2 and 6.1: what a term makes of the verdict of the record that it asks for
+abbrev pub used : Purpose → Verdict → Counts → State
+used (Include verdict) found counts = if is_pass found then Decided verdict counts else Live counts
+used Redirect found counts = Decided found counts
+
+-- RFC 7208, sections 5.2 and 6.1: that this record does not exist is an error of the term
+abbrev pub required : Place → Outcome → Outcome
+required place (Nothing there) = Perm cause.Missing place
+required place (Is verdict) = Is verdict
+required place (Perm cause there) = Perm cause there
+required place (Temp cause there) = Temp cause there
+required place (Unsettled cause there) = Unsettled cause there
+
+-- what stands after this record is evaluated, whose evaluation leaves no address live
+abbrev pub from_target : Place → Purpose → State → State
+from_target place purpose (Live counts) = Live counts
+from_target place purpose (Decided found counts) = used purpose found counts
+from_target place purpose (Failed outcome) = Failed (required place outcome)
+
+abbrev pub after_target : Place → Purpose → State → State → State
+after_target place purpose inner (Live counts) = from_target place purpose inner
+after_target place purpose inner (Decided verdict counts) = Decided verdict counts
+after_target place purpose inner (Failed outcome) = Failed outcome
+
+-- RFC 7208, section 2.6: the outcome where the record is evaluated whole
+abbrev pub outcome_of : State → Outcome
+outcome_of (Live counts) = Is Neutral
+outcome_of (Decided verdict counts) = Is verdict
+outcome_of (Failed outcome) = outcome
 
 -- a row of networks, of which the first that has the address gives this verdict
 abbrev pub after_networks : Option Verdict → State → State

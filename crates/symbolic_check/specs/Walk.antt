@@ -1,5 +1,5 @@
 -- What a walk over a record says of one address (the project's own form; the record is RFC 7208's, section 4.6).
-use Rattle.std.specs.Prelude.{◌≡◌, ℕ, ◌^◌, ◌<◌, ◌⊎◌, ◌↔◌, List, Contains, IsSomeAnd, Some}
+use Rattle.std.specs.Prelude.{◌≡◌, false, ℕ, ◌^◌, ◌<◌, ◌⊎◌, ◌↔◌, List, Contains, IsSomeAnd, Some}
 use Rattle.addr_bits.specs.Prefix.{Cidr}
 use Rattle.zone_answers.specs.declared.answer.Question.{Question}
 use Rattle.prefix_trie.specs.Leaves.{value_at}
@@ -9,6 +9,7 @@ use Rattle.spf_model.specs.declared.outcome.Outcome.TheVariants.{Is}
 use Rattle.spf_model.specs.Run.{Run, Ends, Answering, EndsWith, AsksFor}
 use Rattle.spf_model.specs.Leads.{NoVerdict}
 use Rattle.symbolic_check.specs.declared.state.State.{State}
+use Rattle.symbolic_check.specs.Steps.{is_live}
 use Rattle.symbolic_check.specs.declared.state.State.TheVariants.{Live, Decided, Failed}
 
 -- what is left of a run: it ends as the run does, it asks nothing else, and what the run asks before it was asked
@@ -51,6 +52,14 @@ pub record Walks (bits : ℕ) (zones : Answering) (stretch : ℕ → Stretch) (o
   pub each : (a : ℕ) → a < 2 ^ bits → IsSomeAnd (value_at bits old a) (λ state. IsSomeAnd (value_at bits new a) (Moves zones more (stretch a) state))
   pub kept : (question : Question) → Contains asked question → Contains more question
   pub only : (question : Question) → Contains more question → Contains asked question ⊎ AskedBy bits zones stretch old question
+
+-- some address is live
+abbrev pub SomeLive : (bits : ℕ) → List (Cidr × State) → Type 0
+SomeLive bits states = (a : ℕ) × (counts : Counts) × (a < 2 ^ bits) × (value_at bits states a ≡ Some (Live counts))
+
+-- no address is live
+abbrev pub NoneLive : (bits : ℕ) → List (Cidr × State) → Type 0
+NoneLive bits states = (a : ℕ) → a < 2 ^ bits → IsSomeAnd (value_at bits states a) (λ state. is_live state ≡ false)
 
 -- a stretch, and then another
 abbrev pub then_stretch : Stretch → Stretch → Stretch

@@ -1,8 +1,16 @@
 //! check_host of RFC 7208 for every address at once, over lent zones.
 #![tactic(auto)]
 
+mod asked;
+mod both;
+mod gathered;
+mod hosts;
 mod laws;
 mod networks;
+mod scene;
 mod state;
+mod steps;
+mod walk;
 
-pub use laws::{follows_twice, walks_twice};
+pub use both::{Both, evaluate};
+pub use laws::{follows_twice, rests_on_asked, walks_twice};

@@ -1,12 +1,15 @@
 //! A row of directives with networks (RFC 7208, section 5.6), as one trie.
-ghost use Rattle.std.specs.Prelude.{◌≡◌, ◌<◌, ◌^◌, ℕ, IfOk, OnOk, Some, if◌then◌else◌};
+ghost use Rattle.std.specs.List.{list_any};
+ghost use Rattle.spf_model.specs.Judging.{family_of, address_kind, body_agrees, bodies_of};
+ghost use Rattle.std.specs.Prelude.{◌≡◌, ◌≤◌, ◌<◌, ◌^◌, ℕ, IfOk, OnOk, Some, if◌then◌else◌};
 ghost use Rattle.prefix_trie.specs.Leaves.{value_at};
 ghost use Rattle.symbolic_check.specs.Networks.{network_covers, first_network, with_first, is_in};
 
-use addr_bits::{Prefix, Width};
+use addr_bits::{Family, Prefix, Width};
 use prefix_trie::TrieMap;
 use spf_grammar::{Mechanism, Term, Verdict};
 use std::alloc::{AllocError, Global};
+use zone_answers::{Answer, QKind};
 
 /// The addresses of one family.
 pub(crate) trait FamilyWidth: Width {
@@ -14,6 +17,25 @@ pub(crate) trait FamilyWidth: Width {
 
     // The address with a number.
     ghost address: { ℕ → Address };
+
+    /// The family.
+    fn family() -> Family
+        ensures { (a : ℕ) → family_of (address a) ≡ result };
+
+    /// The kind of record that has the addresses of a name (RFC 7208, section 5).
+    fn address_kind() -> QKind
+        ensures { (a : ℕ) → address_kind (address a) ≡ result };
+
+    /// The addresses that agree in the first bits with a record of the answer (RFC 7208, section 5.3).
+    fn matching(
+        alloc: Global,
+        found: &Answer,
+        len4: u32,
+        len6: u32,
+    ) -> Result<TrieMap<Self, bool>, AllocError>
+        requires len4 { len4 ≤ 32 }
+        requires len6 { len6 ≤ 128 }
+        ensures { IfOk result (λ set. (a : ℕ) → a < 2 ^ Self.BITS → value_at Self.BITS set a ≡ Some (list_any (body_agrees len4 len6 (address a)) (bodies_of found.now))) };
 
     /// The network of a mechanism, where it is one of this family.
     fn network(mechanism: &Mechanism) -> Option<Prefix<Self>>
@@ -24,6 +46,23 @@ impl FamilyWidth for u32 {
     ghost use Rattle.addr_bits.specs.declared.address.Address.TheVariants.{V4};
 
     ghost address = { V4 };
+
+    fn family() -> Family {
+        Family::V4
+    }
+
+    fn address_kind() -> QKind {
+        QKind::A
+    }
+
+    fn matching(
+        alloc: Global,
+        found: &Answer,
+        len4: u32,
+        len6: u32,
+    ) -> Result<TrieMap<u32, bool>, AllocError> {
+        Err(AllocError)
+    }
 
     fn network(mechanism: &Mechanism) -> Option<Prefix<u32>> {
         match mechanism {
@@ -37,6 +76,23 @@ impl FamilyWidth for u128 {
     ghost use Rattle.addr_bits.specs.declared.address.Address.TheVariants.{V6};
 
     ghost address = { V6 };
+
+    fn family() -> Family {
+        Family::V6
+    }
+
+    fn address_kind() -> QKind {
+        QKind::Aaaa
+    }
+
+    fn matching(
+        alloc: Global,
+        found: &Answer,
+        len4: u32,
+        len6: u32,
+    ) -> Result<TrieMap<u128, bool>, AllocError> {
+        Err(AllocError)
+    }
 
     fn network(mechanism: &Mechanism) -> Option<Prefix<u128>> {
         match mechanism {

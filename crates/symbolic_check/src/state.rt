@@ -17,6 +17,15 @@ pub(crate) enum State {
     Failed(Outcome),
 }
 
+/// What a term makes of the verdict of the record that it asks for.
+#[derive(Clone, Copy)]
+pub(crate) enum Purpose {
+    /// It gives its own verdict where that record passes the address (RFC 7208, section 5.2).
+    Include(Verdict),
+    /// It takes that verdict over (RFC 7208, section 6.1).
+    Redirect,
+}
+
 impl State {
     /// Whether no directive has matched so far.
     pub(crate) fn is_live(&self) -> bool

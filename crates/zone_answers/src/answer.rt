@@ -20,6 +20,9 @@ pub struct Question {
     pub kind: QKind,
 }
 
+/// Questions, in order.
+pub type Questions = Items<Question>;
+
 /// Bodies of records, in order.
 pub type Bodies = Items<Body>;
 

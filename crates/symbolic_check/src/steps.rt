@@ -1,0 +1,124 @@
+//! The steps of a walk, which make something of what stands at each address.
+ghost use Rattle.std.specs.Prelude.{◌≡◌, ◌<◌, ◌^◌, ℕ, IfOk, MatchBool, option_map};
+ghost use Rattle.prefix_trie.specs.Leaves.{value_at};
+ghost use Rattle.symbolic_check.specs.Steps as step;
+ghost use Rattle.symbolic_check.specs.Walk.{SomeLive, NoneLive, StepsAt, StepsWith};
+
+use crate::state::{Purpose, State};
+use addr_bits::Width;
+use prefix_trie::TrieMap;
+use spf_grammar::Verdict;
+use spf_model::{Limits, Outcome, Place};
+use std::alloc::{AllocError, Global};
+
+/// What stands at each address of a family in the midst of a record.
+pub(crate) type States<W> = TrieMap<W, State>;
+
+/// Whether some address is live.
+pub(crate) fn is_some_live<W: Width>(states: &States<W>) -> bool
+    ensures { MatchBool result (NoneLive W.BITS states.now) (SomeLive W.BITS states.now) }
+{
+    states.least_where(|state| state.is_live()).is_some()
+}
+
+/// Counts a term that asks the DNS (RFC 7208, section 4.6.4).
+pub(crate) fn count_lookups<W: Width>(
+    alloc: Global,
+    states: &States<W>,
+    limits: Limits,
+    place: &Place,
+) -> Result<States<W>, AllocError>
+    ensures { IfOk result (λ new. StepsAt W.BITS (λ a. step.after_lookup limits place.now) states.now new) }
+{
+    Err(AllocError)
+}
+
+/// Counts a term that got a void answer, or none (RFC 7208, section 4.6.4).
+pub(crate) fn count_voids<W: Width>(
+    alloc: Global,
+    states: &States<W>,
+    limits: Limits,
+    place: &Place,
+    void: bool,
+) -> Result<States<W>, AllocError>
+    ensures { IfOk result (λ new. StepsAt W.BITS (λ a. step.after_void limits place.now void) states.now new) }
+{
+    Err(AllocError)
+}
+
+/// Ends the evaluation of each live address with an outcome that is no verdict.
+pub(crate) fn fail<W: Width>(
+    alloc: Global,
+    states: &States<W>,
+    outcome: &Outcome,
+) -> Result<States<W>, AllocError>
+    ensures { IfOk result (λ new. StepsAt W.BITS (λ a. step.after_failure outcome.now) states.now new) }
+{
+    Err(AllocError)
+}
+
+/// A directive that matches every address, or none (RFC 7208, section 4.6.2).
+pub(crate) fn match_all<W: Width>(
+    alloc: Global,
+    states: &States<W>,
+    verdict: Verdict,
+    matches: bool,
+) -> Result<States<W>, AllocError>
+    ensures { IfOk result (λ new. StepsAt W.BITS (λ a. step.after_match verdict matches) states.now new) }
+{
+    Err(AllocError)
+}
+
+/// A directive that matches the addresses of a set (RFC 7208, section 4.6.2).
+pub(crate) fn match_set<W: Width>(
+    alloc: Global,
+    states: &States<W>,
+    verdict: Verdict,
+    set: &TrieMap<W, bool>,
+) -> Result<States<W>, AllocError>
+    ensures { IfOk result (λ new. StepsWith W.BITS (step.after_match verdict) set.now states.now new) }
+{
+    Err(AllocError)
+}
+
+/// A row of networks, of which the first that has an address gives it this verdict (RFC 7208, section 4.6.2).
+pub(crate) fn match_networks<W: Width>(
+    alloc: Global,
+    states: &States<W>,
+    found: &TrieMap<W, Option<Verdict>>,
+) -> Result<States<W>, AllocError>
+    ensures { IfOk result (λ new. StepsWith W.BITS step.after_networks found.now states.now new) }
+{
+    Err(AllocError)
+}
+
+/// The states with which a record that is asked for is entered: those of the live addresses (RFC 7208, section 5.2).
+pub(crate) fn enter<W: Width>(alloc: Global, states: &States<W>) -> Result<States<W>, AllocError>
+    ensures { IfOk result (λ new. StepsAt W.BITS (λ a. step.entered) states.now new) }
+{
+    Err(AllocError)
+}
+
+/// What a term makes of the record that it asks for (RFC 7208, sections 5.2 and 6.1). `inner` is what stands after that
+/// record is evaluated.
+pub(crate) fn use_target<W: Width>(
+    alloc: Global,
+    states: &States<W>,
+    inner: &States<W>,
+    place: &Place,
+    purpose: Purpose,
+) -> Result<States<W>, AllocError>
+    ensures { IfOk result (λ new. StepsWith W.BITS (step.after_target place.now purpose) inner.now states.now new) }
+{
+    Err(AllocError)
+}
+
+/// The outcome of each address, where the record is evaluated whole.
+pub(crate) fn outcomes<W: Width>(
+    alloc: Global,
+    states: &States<W>,
+) -> Result<TrieMap<W, Outcome>, AllocError>
+    ensures { IfOk result (λ ends. (a : ℕ) → a < 2 ^ W.BITS → value_at W.BITS ends a ≡ option_map step.outcome_of (value_at W.BITS states.now a)) }
+{
+    Err(AllocError)
+}
