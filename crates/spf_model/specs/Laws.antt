@@ -1,5 +1,5 @@
 -- The laws of check_host, as statements.
-use Rattle.std.specs.Prelude.{◌≡◌, ℕ, ◌+◌, ◌<◌, ◌≤◌, ◌↔◌, suc, List}
+use Rattle.std.specs.Prelude.{◌≡◌, ℕ, ◌+◌, ◌<◌, ◌≤◌, ◌↔◌, suc, List, length}
 use Rattle.addr_bits.specs.declared.address.Address.{Address}
 use Rattle.spf_model.specs.Judging.{Labels}
 use Rattle.zone_answers.specs.declared.answer.Question.{Question}
@@ -8,6 +8,8 @@ use Rattle.spf_model.specs.declared.outcome.Counts.{Counts}
 use Rattle.spf_model.specs.declared.outcome.Outcome.{Outcome}
 use Rattle.spf_model.specs.Run.{Run, Answering, EndsWith, AsksFor}
 use Rattle.spf_model.specs.Check.{check}
+use Rattle.spf_model.specs.Chains.{IsChain, GivesFlat}
+use Rattle.spf_grammar.specs.declared.flat.FlatTerm.{FlatTerm}
 
 -- zones that answer each question of a run alike
 abbrev pub SameAnswers : Answering → Answering → Run → Type 0
@@ -30,3 +32,9 @@ DepthSuffices = (zones : Answering) (limits : Limits) (a : Address) (depth : ℕ
     (outcome : Outcome) (after : Counts) → counts.lookups ≤ limits.lookups → limits.lookups < depth + counts.lookups
     → EndsWith zones (check limits a depth domain name counts) outcome after
     ↔ EndsWith zones (check limits a (suc depth) domain name counts) outcome after
+
+-- RFC 7208, section 6.1: a chain of at most one record more than the limit on lookups gives every address the verdict of the first of
+-- all its terms that has it
+abbrev pub ChainsGiveFirst : Type 0
+ChainsGiveFirst = (zones : Answering) (limits : Limits) (a : Address) (domain : List ℕ) (name : Labels) (lists : List (List FlatTerm))
+    → IsChain zones domain name lists → length lists ≤ suc limits.lookups → GivesFlat zones limits a domain name lists

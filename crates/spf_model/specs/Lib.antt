@@ -3,5 +3,6 @@ pub mod Judging
 pub mod Check
 pub mod Result
 pub mod Leads
+pub mod Chains
 pub mod Laws
 pub mod Lines

@@ -1,5 +1,5 @@
 //! What holds of every evaluation. The functions do nothing: what they promise is the law.
-ghost use Rattle.spf_model.specs.Laws.{DepthSuffices, OneEnd, RestsOnItsQuestions};
+ghost use Rattle.spf_model.specs.Laws.{ChainsGiveFirst, DepthSuffices, OneEnd, RestsOnItsQuestions};
 
 /// An evaluation ends in one way.
 pub fn one_end()
@@ -14,4 +14,10 @@ pub fn rests_on_its_questions()
 /// Where records may be nested deeper than the lookups that are left, more depth changes nothing.
 pub fn depth_suffices()
     ensures { DepthSuffices }
+{}
+
+/// A chain of flat records, of which each but the last redirects to the next, gives every address the verdict of the first
+/// of all its terms that has it (RFC 7208, section 6.1). Each redirect counts one lookup, and none is void.
+pub fn chains_give_first()
+    ensures { ChainsGiveFirst }
 {}

@@ -538,6 +538,7 @@ fn other_limits(rt: HostRuntime) -> Result<(), Fail> {
 #[test]
 fn laws() {
     depth_suffices();
+    chains_give_first();
     one_end();
     rests_on_its_questions();
 }
