@@ -6,6 +6,7 @@ pub mod LendingLemmas
 pub mod OneLending
 pub mod PublishedLemmas
 pub mod ReadingLemmas
+pub mod RecordTexts
 pub mod SameVerdicts
 pub mod ShortestLemmas
 pub mod ZonesLemmas

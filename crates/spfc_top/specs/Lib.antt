@@ -1,4 +1,5 @@
 pub mod Answers
+pub mod Chain
 pub mod Compiled
 pub mod Due
 pub mod Ended

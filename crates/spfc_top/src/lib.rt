@@ -16,7 +16,7 @@ mod top;
 mod verdicts;
 mod writing;
 
-pub use laws::one_is_due;
+pub use laws::{one_is_due, records_lead_on, records_spell};
 pub use top::run;
 
 #[cfg(test)]
