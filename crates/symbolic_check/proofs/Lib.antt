@@ -2,4 +2,6 @@ pub mod Following
 pub mod Walking
 pub mod Stepping
 pub mod Combining
+pub mod Settling
 pub mod Targets
+pub mod Rows
