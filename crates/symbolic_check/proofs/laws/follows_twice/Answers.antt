@@ -1,4 +1,3 @@
-use Rattle.symbolic_check.proofs.Rows.{row_walks}
 use Rattle.symbolic_check.proofs.Following.{follows_twice}
 use Rattle.symbolic_check.proofs.laws.follows_twice.Goals as goal
 
