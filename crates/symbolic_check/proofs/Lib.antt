@@ -2,4 +2,5 @@ pub mod Following
 pub mod Walking
 pub mod Stepping
 pub mod Combining
+pub mod Telling
 pub mod Rests
