@@ -5,3 +5,5 @@ pub mod Combining
 pub mod Settling
 pub mod Targets
 pub mod Rows
+pub mod Telling
+pub mod Rests
