@@ -1,6 +1,6 @@
 -- A record's terms, one after the other, and rows of networks among them.
 use Rattle.std.proofs.Common.{◌≡◌, ℕ, zero, suc, ◌+◌, ◌-◌, ◌<◌, ◌≤◌, ◌^◌, true, List, [], ◌∷◌, ◌++◌, length, get_or, take, drop, refl, sym, ◌∙◌, ap, subst, inl, arith, add-one, get_or-drop, drop-drop, drop-cons, length-drop, take-append-drop, length-take-le, Option, Some, None, IsSomeAnd}
-use Rattle.std.proofs.Common.{Bool, ◌&&◌}
+use Rattle.std.proofs.Common.{Bool, ◌&&◌, Result, Ok, Err, IfOk}
 use Rattle.std.proofs.lemmas.List.Folds.{list_all_more}
 use Rattle.std.specs.List.{list_all}
 use Rattle.addr_bits.specs.Prefix.{Cidr}
@@ -88,6 +88,28 @@ row_walks bits zones address scene depth t row found old new asked networks firs
   where
     some_same : {x y : Option Verdict} → Some x ≡ Some y → x ≡ y
     some_same e = cc
+
+pub row_stepped : {E : Type 0} (bits : ℕ) (zones : Answering) (address : ℕ → Address) (scene : Scene) (row : List Term) (found : List (Cidr × Option Verdict)) (old : List (Cidr × State)) (result : Result (List (Cidr × State)) E)
+    → list_all is_row_term row ≡ true
+    → ((a : ℕ) → a < 2 ^ bits → value_at bits found a ≡ Some (first_network row (address a)))
+    → IfOk result (λ new. StepsWith bits after_networks found old new)
+    → IfOk result (λ new. (depth t : ℕ) (asked : List Question) → Walks bits zones (terms_stretch address scene depth t row) old new asked asked)
+row_stepped bits zones address scene row found old (Ok new) networks first steps = λ depth t asked.
+    row_walks bits zones address scene depth t row found old new asked networks first steps
+row_stepped bits zones address scene row found old (Err e) networks first steps = steps
+
+-- a row is passed where a walk over what stands behind it makes a walk over both
+abbrev pub PassesRow : (bits : ℕ) → Answering → (ℕ → Address) → Scene → List Term → List (Cidr × State) → List (Cidr × State) → Type 0
+PassesRow bits zones address scene row old mid = (depth t : ℕ) (rest : List Term) (new : List (Cidr × State)) (asked more : List Question)
+    → Walks bits zones (terms_stretch address scene depth (number_after t (length row)) rest) mid new asked more
+    → Walks bits zones (terms_stretch address scene depth t (row ++ rest)) old new asked more
+
+pub rows_pass : {E : Type 0} (bits : ℕ) (zones : Answering) (address : ℕ → Address) (scene : Scene) (row : List Term) (old : List (Cidr × State)) (result : Result (List (Cidr × State)) E)
+    → IfOk result (λ mid. (depth t : ℕ) (asked : List Question) → Walks bits zones (terms_stretch address scene depth t row) old mid asked asked)
+    → IfOk result (PassesRow bits zones address scene row old)
+rows_pass bits zones address scene row old (Ok mid) h = λ depth t rest new asked more next.
+    rows_walk bits zones address scene depth t row rest old mid new asked asked more (h depth t asked) next
+rows_pass bits zones address scene row old (Err e) h = h
 
 -- ---- the terms as far as they were walked
 
