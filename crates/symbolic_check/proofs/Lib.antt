@@ -3,3 +3,4 @@ pub mod Walking
 pub mod Stepping
 pub mod Combining
 pub mod Settling
+pub mod Asking
