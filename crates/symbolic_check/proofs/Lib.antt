@@ -4,3 +4,4 @@ pub mod Stepping
 pub mod Combining
 pub mod Settling
 pub mod Asking
+pub mod Finding
