@@ -5,3 +5,7 @@ pub mod Combining
 pub mod Settling
 pub mod Asking
 pub mod Finding
+pub mod Targets
+pub mod Rows
+pub mod Telling
+pub mod Rests
