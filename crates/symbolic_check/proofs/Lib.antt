@@ -9,3 +9,4 @@ pub mod Targets
 pub mod Rows
 pub mod Telling
 pub mod Rests
+pub mod Gathering
