@@ -39,7 +39,7 @@ pub walk_target-returns-in-Err-Ended : goal.walk_target-returns-in-Err-Ended
 walk_target-returns-in-Err-Ended g t c =
     target_stopped g.W.Width.BITS (says c.args.self.now.zones.now) g.W.FamilyWidth.address c.args.self.now c.args.depth c.args.term c.args.spec.now c.args.purpose c.place.result
     c.in-Err-Ended.outcome c.args.states c.in_ok-counted.counted c.args.asked.now c.fail.result
-    c.place.ensures c.in_ok-counted.ensures (rw c.if-not-is_some_live.false at c.is_some_live.ensures) (rw c.in-Err-Ended.field-0-is at c.in-Err-Ended.ensures c.args.asked.now) c.fail.ensures
+    c.place.ensures c.in_ok-counted.ensures (rw c.if-not-is_some_live.false at c.is_some_live.ensures) (rw c.in-Err-Ended.field-0-is at c.in-Err-Ended.ensures c.args.asked.now) (rw c.in-Err-Ended.field-0-is at c.fail.ensures)
 
 -- ---- one term
 
