@@ -1,7 +1,9 @@
 -- What a function makes of what stands at each address, by the contract of `combine` alone.
-use Rattle.std.proofs.Common.{◌≡◌, ℕ, ◌<◌, ◌^◌, Bool, true, List, sym, ◌∙◌, ap, Option, Some, None, Result, Ok, IsSomeAnd}
+use Rattle.std.proofs.Common.{◌≡◌, ℕ, ◌<◌, ◌^◌, Bool, true, List, refl, sym, ◌∙◌, ap, Option, Some, None, Result, Ok, Err, IfOk, IsSomeAnd}
+use Rattle.std.proofs.lemmas.Result.{IfOk-weaker}
+use Rattle.std.specs.Prelude.{option_map}
 use Rattle.addr_bits.specs.Prefix.{Cidr}
-use Rattle.prefix_trie.specs.Leaves.{value_at, IsAnswer, CombinesAt}
+use Rattle.prefix_trie.specs.Leaves.{value_at}
 use Rattle.symbolic_check.specs.declared.state.State.{State}
 use Rattle.symbolic_check.specs.Walk.{StepsAt, StepsWith}
 
@@ -9,33 +11,59 @@ use Rattle.symbolic_check.specs.Walk.{StepsAt, StepsWith}
 abbrev pub Tells : {V : Type 0} → (V → V → Bool) → Type 0
 Tells {V} eq = (x y : V) → eq x y ≡ true → x ≡ y
 
--- the answers on two values are what the step makes of them
-abbrev pub AnswersBy : {U E : Type 0} → (State → U → Result State E → Type 0) → (U → State → State) → Type 0
-AnswersBy {U} answers step = (x : State) (u : U) (w : State) → answers x u (Ok w) → w ≡ step u x
+-- what is given on two values is what the function makes of them
+abbrev pub GivesBy : {V U X : Type 0} → (V → U → X → Type 0) → (U → V → X) → Type 0
+GivesBy {V} {U} {X} gives f = (x : V) (u : U) (w : X) → gives x u w → w ≡ f u x
 
-stands_with : {U E : Type 0} (eq : State → State → Bool) (answers : State → U → Result State E → Type 0) (step : U → State → State)
-    → Tells eq → AnswersBy answers step → (old : Option State) (with : Option U) (new : Option State)
-    → IsSomeAnd old (λ x. IsSomeAnd with (λ y. IsSomeAnd new (λ z. IsAnswer eq answers x y z)))
-    → IsSomeAnd old (λ x. IsSomeAnd with (λ y. new ≡ Some (step y x)))
-stands_with eq answers step tells by None with new h = h
-stands_with eq answers step tells by (Some x) None new h = h
-stands_with eq answers step tells by (Some x) (Some y) None h = absurd h
-stands_with eq answers step tells by (Some x) (Some y) (Some z) h = ap Some (sym (tells h.0 z h.2) ∙ by x y h.0 h.1)
+-- at this address stands a value that is given on the values of two tries, by the test of equality
+abbrev pub GivenAt : {V U X : Type 0} → (bits : ℕ) → (X → X → Bool) → (V → U → X → Type 0) → List (Cidr × V) → List (Cidr × U) → List (Cidr × X) → ℕ → Type 0
+GivenAt {V} {U} {X} bits eq gives left right both a =
+    IsSomeAnd (value_at bits left a) (λ x. IsSomeAnd (value_at bits right a) (λ y. IsSomeAnd (value_at bits both a) (λ z. (w : X) × gives x y w × (eq w z ≡ true))))
 
-pub combined_with : {U E : Type 0} (bits : ℕ) (eq : State → State → Bool) (answers : State → U → Result State E → Type 0) (step : U → State → State)
-    → Tells eq → AnswersBy answers step → (old : List (Cidr × State)) (with : List (Cidr × U)) (new : List (Cidr × State))
-    → ((a : ℕ) → a < 2 ^ bits → CombinesAt bits eq answers old with new a) → StepsWith bits step with old new
-combined_with bits eq answers step tells by old with new h =
-    λ a below. stands_with eq answers step tells by (value_at bits old a) (value_at bits with a) (value_at bits new a) (h a below)
+stands_with : {V U X : Type 0} (eq : X → X → Bool) (gives : V → U → X → Type 0) (f : U → V → X)
+    → Tells eq → GivesBy gives f → (old : Option V) (with : Option U) (new : Option X)
+    → IsSomeAnd old (λ x. IsSomeAnd with (λ y. IsSomeAnd new (λ z. (w : X) × gives x y w × (eq w z ≡ true))))
+    → IsSomeAnd old (λ x. IsSomeAnd with (λ y. new ≡ Some (f y x)))
+stands_with eq gives f tells by None with new h = h
+stands_with eq gives f tells by (Some x) None new h = h
+stands_with eq gives f tells by (Some x) (Some y) None h = absurd h
+stands_with eq gives f tells by (Some x) (Some y) (Some z) h = ap Some (sym (tells h.0 z h.2) ∙ by x y h.0 h.1)
+
+pub combined_with : {U : Type 0} (bits : ℕ) {eq : State → State → Bool} {gives : State → U → State → Type 0}
+    (old : List (Cidr × State)) (with : List (Cidr × U)) (new : List (Cidr × State))
+    → ((a : ℕ) → a < 2 ^ bits → GivenAt bits eq gives old with new a) → (step : U → State → State) → Tells eq → GivesBy gives step
+    → StepsWith bits step with old new
+combined_with bits {eq} {gives} old with new h step tells by =
+    λ a below. stands_with eq gives step tells by (value_at bits old a) (value_at bits with a) (value_at bits new a) (h a below)
 
 -- the same where the trie is combined with itself
-stands_alone : (old : Option State) (new : Option State) (step : State → State)
-    → IsSomeAnd old (λ x. IsSomeAnd old (λ y. new ≡ Some (step x))) → IsSomeAnd old (λ x. new ≡ Some (step x))
-stands_alone None new step h = h
-stands_alone (Some x) new step h = h
+stands_alone : {V X : Type 0} (old : Option V) (new : Option X) (f : V → X)
+    → IsSomeAnd old (λ x. IsSomeAnd old (λ y. new ≡ Some (f x))) → IsSomeAnd old (λ x. new ≡ Some (f x))
+stands_alone None new f h = h
+stands_alone (Some x) new f h = h
 
-pub combined_alone : {E : Type 0} (bits : ℕ) (eq : State → State → Bool) (answers : State → State → Result State E → Type 0) (step : State → State)
-    → Tells eq → AnswersBy answers (λ u. step) → (old new : List (Cidr × State))
-    → ((a : ℕ) → a < 2 ^ bits → CombinesAt bits eq answers old old new a) → StepsAt bits (λ a. step) old new
-combined_alone bits eq answers step tells by old new h =
-    λ a below. stands_alone (value_at bits old a) (value_at bits new a) step (combined_with bits eq answers (λ u. step) tells by old old new h a below)
+combined : {V X : Type 0} (bits : ℕ) (eq : X → X → Bool) (gives : V → V → X → Type 0) (f : V → X) (old : List (Cidr × V)) (new : List (Cidr × X)) (a : ℕ)
+    → GivenAt bits eq gives old old new a → Tells eq → GivesBy gives (λ u. f) → IsSomeAnd (value_at bits old a) (λ x. value_at bits new a ≡ Some (f x))
+combined bits eq gives f old new a h tells by =
+    stands_alone (value_at bits old a) (value_at bits new a) f
+    (stands_with eq gives (λ u. f) tells by (value_at bits old a) (value_at bits old a) (value_at bits new a) h)
+
+pub combined_alone : (bits : ℕ) {eq : State → State → Bool} {gives : State → State → State → Type 0} (old new : List (Cidr × State))
+    → ((a : ℕ) → a < 2 ^ bits → GivenAt bits eq gives old old new a) → (step : State → State) → Tells eq → GivesBy gives (λ u. step)
+    → StepsAt bits (λ a. step) old new
+combined_alone bits {eq} {gives} old new h step tells by = λ a below. combined bits eq gives step old new a (h a below) tells by
+
+-- the same where the values that are made are of another type
+mapped : {V X : Type 0} (old : Option V) (new : Option X) (f : V → X) → IsSomeAnd old (λ x. new ≡ Some (f x)) → new ≡ option_map f old
+mapped None new f h = absurd h
+mapped (Some x) new f h = h
+
+pub combined_map : {V X : Type 0} (bits : ℕ) {eq : X → X → Bool} {gives : V → V → X → Type 0} (old : List (Cidr × V)) (new : List (Cidr × X))
+    → ((a : ℕ) → a < 2 ^ bits → GivenAt bits eq gives old old new a) → (f : V → X) → Tells eq → GivesBy gives (λ u. f)
+    → (a : ℕ) → a < 2 ^ bits → value_at bits new a ≡ option_map f (value_at bits old a)
+combined_map bits {eq} {gives} old new h f tells by =
+    λ a below. mapped (value_at bits old a) (value_at bits new a) f (combined bits eq gives f old new a (h a below) tells by)
+
+-- what holds of each value in an Ok, from a fact that comes first
+pub if_ok_by : {A X : Type 0} {P : A → Type 0} (Q : A → Type 0) (result : Result A X) → IfOk result P → ((a : A) → P a → Q a) → IfOk result Q
+if_ok_by {A} {X} {P} Q result h weaker = IfOk-weaker result P Q weaker h

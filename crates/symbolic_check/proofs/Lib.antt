@@ -2,3 +2,12 @@ pub mod Following
 pub mod Walking
 pub mod Stepping
 pub mod Combining
+pub mod Settling
+pub mod Asking
+pub mod Finding
+pub mod Targets
+pub mod Rows
+pub mod Telling
+pub mod Rests
+pub mod Gathering
+pub mod Records

@@ -103,4 +103,85 @@ impl State {
             None => self.clone(),
         }
     }
+
+    /// What stands here at the begin of a record that is asked for (RFC 7208, section 5.2).
+    pub(crate) fn entered(&self) -> State
+        ensures { result ≡ step.entered self.now }
+    {
+        match self {
+            State::Live(counts) => State::Live(*counts),
+            _ => State::Decided(
+                Verdict::Neutral,
+                Counts {
+                    lookups: 0,
+                    voids: 0,
+                },
+            ),
+        }
+    }
+
+    /// What stands here after a record that a term asked for, at the end of which this stands (RFC 7208, sections 5.2 and 6.1).
+    pub(crate) fn after_target(
+        &self,
+        inner: &State,
+        place: &Place,
+        purpose: Purpose,
+    ) -> Result<State, AllocError>
+        ensures { IfOk result (λ state. state ≡ step.after_target place.now purpose inner.now self.now) }
+    {
+        match self {
+            State::Live(_) => inner.used(place, purpose),
+            _ => self.clone(),
+        }
+    }
+
+    /// What a term makes of this at the end of the record that it asked for (RFC 7208, sections 5.2 and 6.1).
+    fn used(&self, place: &Place, purpose: Purpose) -> Result<State, AllocError>
+        ensures { IfOk result (λ state. state ≡ step.from_target place.now purpose self.now) }
+    {
+        match self {
+            State::Live(counts) => Ok(State::Live(*counts)),
+            State::Decided(found, counts) => Ok(purpose.of_verdict(*found, *counts)),
+            State::Failed(outcome) => Ok(State::Failed(required(outcome, place)?)),
+        }
+    }
+
+    /// The outcome, where the record is evaluated whole (RFC 7208, section 2.6).
+    pub(crate) fn outcome(&self) -> Result<Outcome, AllocError>
+        ensures { IfOk result (λ outcome. outcome ≡ step.outcome_of self.now) }
+    {
+        match self {
+            State::Live(_) => Ok(Outcome::Is(Verdict::Neutral)),
+            State::Decided(verdict, _) => Ok(Outcome::Is(*verdict)),
+            State::Failed(outcome) => outcome.clone(),
+        }
+    }
+}
+
+impl Purpose {
+    /// What the term makes of a verdict of the record that it asked for (RFC 7208, sections 5.2 and 6.1).
+    fn of_verdict(self, found: Verdict, counts: Counts) -> State
+        ensures { result ≡ step.used self found counts }
+    {
+        match self {
+            Purpose::Include(verdict) => {
+                if matches!(found, Verdict::Pass) {
+                    State::Decided(verdict, counts)
+                } else {
+                    State::Live(counts)
+                }
+            }
+            Purpose::Redirect => State::Decided(found, counts),
+        }
+    }
+}
+
+/// The outcome of a record that a term asked for. That there is none is an error of the term (RFC 7208, sections 5.2 and 6.1).
+fn required(outcome: &Outcome, place: &Place) -> Result<Outcome, AllocError>
+    ensures { IfOk result (λ required. required ≡ step.required place.now outcome.now) }
+{
+    match outcome {
+        Outcome::Nothing(_) => Ok(Outcome::Perm(Cause::Missing, place.clone()?)),
+        _ => outcome.clone(),
+    }
 }

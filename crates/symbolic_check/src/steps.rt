@@ -16,7 +16,7 @@ pub(crate) type States<W> = TrieMap<W, State>;
 
 /// Whether some address is live.
 pub(crate) fn is_some_live<W: Width>(states: &States<W>) -> bool
-    ensures { MatchBool result (NoneLive W.BITS states.now) (SomeLive W.BITS states.now) }
+    ensures { MatchBool result (SomeLive W.BITS states.now) (NoneLive W.BITS states.now) }
 {
     states.least_where(|state| state.is_live()).is_some()
 }
@@ -30,7 +30,12 @@ pub(crate) fn count_lookups<W: Width>(
 ) -> Result<States<W>, AllocError>
     ensures { IfOk result (λ new. StepsAt W.BITS (λ a. step.after_lookup limits place.now) states.now new) }
 {
-    Err(AllocError)
+    TrieMap::combine(
+        alloc,
+        states,
+        states,
+        |state, _| state.after_lookup(limits, place),
+    )
 }
 
 /// Counts a term that got a void answer, or none (RFC 7208, section 4.6.4).
@@ -43,7 +48,12 @@ pub(crate) fn count_voids<W: Width>(
 ) -> Result<States<W>, AllocError>
     ensures { IfOk result (λ new. StepsAt W.BITS (λ a. step.after_void limits place.now void) states.now new) }
 {
-    Err(AllocError)
+    TrieMap::combine(
+        alloc,
+        states,
+        states,
+        |state, _| state.after_void(limits, place, void),
+    )
 }
 
 /// Ends the evaluation of each live address with an outcome that is no verdict.
@@ -54,7 +64,12 @@ pub(crate) fn fail<W: Width>(
 ) -> Result<States<W>, AllocError>
     ensures { IfOk result (λ new. StepsAt W.BITS (λ a. step.after_failure outcome.now) states.now new) }
 {
-    Err(AllocError)
+    TrieMap::combine(
+        alloc,
+        states,
+        states,
+        |state, _| state.after_failure(outcome),
+    )
 }
 
 /// A directive that matches every address, or none (RFC 7208, section 4.6.2).
@@ -66,7 +81,12 @@ pub(crate) fn match_all<W: Width>(
 ) -> Result<States<W>, AllocError>
     ensures { IfOk result (λ new. StepsAt W.BITS (λ a. step.after_match verdict matches) states.now new) }
 {
-    Err(AllocError)
+    TrieMap::combine(
+        alloc,
+        states,
+        states,
+        |state, _| state.after_match(verdict, matches),
+    )
 }
 
 /// A directive that matches the addresses of a set (RFC 7208, section 4.6.2).
@@ -78,7 +98,12 @@ pub(crate) fn match_set<W: Width>(
 ) -> Result<States<W>, AllocError>
     ensures { IfOk result (λ new. StepsWith W.BITS (step.after_match verdict) set.now states.now new) }
 {
-    Err(AllocError)
+    TrieMap::combine(
+        alloc,
+        states,
+        set,
+        |state, matches| state.after_match(verdict, *matches),
+    )
 }
 
 /// A row of networks, of which the first that has an address gives it this verdict (RFC 7208, section 4.6.2).
@@ -89,14 +114,24 @@ pub(crate) fn match_networks<W: Width>(
 ) -> Result<States<W>, AllocError>
     ensures { IfOk result (λ new. StepsWith W.BITS step.after_networks found.now states.now new) }
 {
-    Err(AllocError)
+    TrieMap::combine(
+        alloc,
+        states,
+        found,
+        |state, first| state.after_networks(*first),
+    )
 }
 
 /// The states with which a record that is asked for is entered: those of the live addresses (RFC 7208, section 5.2).
 pub(crate) fn enter<W: Width>(alloc: Global, states: &States<W>) -> Result<States<W>, AllocError>
     ensures { IfOk result (λ new. StepsAt W.BITS (λ a. step.entered) states.now new) }
 {
-    Err(AllocError)
+    TrieMap::combine(
+        alloc,
+        states,
+        states,
+        |state, _| Ok(state.entered()),
+    )
 }
 
 /// What a term makes of the record that it asks for (RFC 7208, sections 5.2 and 6.1). `inner` is what stands after that
@@ -110,7 +145,12 @@ pub(crate) fn use_target<W: Width>(
 ) -> Result<States<W>, AllocError>
     ensures { IfOk result (λ new. StepsWith W.BITS (step.after_target place.now purpose) inner.now states.now new) }
 {
-    Err(AllocError)
+    TrieMap::combine(
+        alloc,
+        states,
+        inner,
+        |state, after| state.after_target(after, place, purpose),
+    )
 }
 
 /// The outcome of each address, where the record is evaluated whole.
@@ -120,5 +160,10 @@ pub(crate) fn outcomes<W: Width>(
 ) -> Result<TrieMap<W, Outcome>, AllocError>
     ensures { IfOk result (λ ends. (a : ℕ) → a < 2 ^ W.BITS → value_at W.BITS ends a ≡ option_map step.outcome_of (value_at W.BITS states.now a)) }
 {
-    Err(AllocError)
+    TrieMap::combine(
+        alloc,
+        states,
+        states,
+        |state, _| state.outcome(),
+    )
 }
