@@ -2,5 +2,6 @@ pub mod Following
 pub mod Walking
 pub mod Stepping
 pub mod Combining
+pub mod Seeking
 pub mod Telling
 pub mod Rests

@@ -16,7 +16,7 @@ pub(crate) type States<W> = TrieMap<W, State>;
 
 /// Whether some address is live.
 pub(crate) fn is_some_live<W: Width>(states: &States<W>) -> bool
-    ensures { MatchBool result (NoneLive W.BITS states.now) (SomeLive W.BITS states.now) }
+    ensures { MatchBool result (SomeLive W.BITS states.now) (NoneLive W.BITS states.now) }
 {
     states.least_where(|state| state.is_live()).is_some()
 }
