@@ -6,3 +6,4 @@ pub mod Hosts
 pub mod Scenes
 pub mod Evaluation
 pub mod Laws
+pub mod Keyed
