@@ -7,3 +7,4 @@ pub mod Scenes
 pub mod Evaluation
 pub mod Laws
 pub mod Keyed
+pub mod Families
