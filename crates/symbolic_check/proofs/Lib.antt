@@ -2,6 +2,7 @@ pub mod Following
 pub mod Walking
 pub mod Stepping
 pub mod Combining
+pub mod Evaluated
 pub mod Families
 pub mod Keying
 pub mod Seeking
