@@ -25,10 +25,10 @@ use Rattle.symbolic_check.specs.declared.gathered.Gathered.{Gathered}
 use Rattle.symbolic_check.specs.declared.scene.Scene.{Scene}
 use Rattle.symbolic_check.specs.Walk.{Follows}
 use Rattle.symbolic_check.specs.Settling.{PartOf, site_at, Passes, Stops, Adds, Settles, SettlesBy}
-use Rattle.symbolic_check.specs.Hosts.{Found, IsGathered, gather_a, gather_exchanges, gather_mx}
+use Rattle.symbolic_check.specs.Hosts.{Found, IsGathered, gather_a, gather_exchanges, gather_mx, gather_exists}
 use Rattle.symbolic_check.proofs.Following.{follows_itself, follows_twice, follows_more}
 use Rattle.symbolic_check.proofs.Settling.{then_part, passes_twice, stops_next, stops_first, adds_none, adds_first, adds_twice}
-use Rattle.symbolic_check.proofs.Asking.{host_part, ask_part}
+use Rattle.symbolic_check.proofs.Asking.{settles_first, settles_next, host_part, ask_part}
 
 -- ---- parts that settle by a relation
 
@@ -271,3 +271,21 @@ pub mx_gathers : (zones : Answering) (scene : Scene) (address : ℕ → Address)
 mx_gathers zones scene address t spec name found result asked mid more h g e =
     gathers_next IsGathered zones asked asked more (host_part scene address t spec) (mx_next scene address t) name result h
     (gathers_next IsGathered zones asked mid more (mx_ask scene address t name) (exchanges_part scene address t) found result g e)
+
+-- ---- `exists`
+
+abbrev pub exists_part : Scene → (ℕ → Address) → ℕ → List Piece → PartOf Answer
+exists_part scene address t spec a counts go = gather_exists (site_at scene (address a)) t spec counts go
+
+abbrev exists_ask : Scene → (ℕ → Address) → ℕ → Labels → PartOf Answer
+exists_ask scene address t name = ask_part scene address t (record { name = name; kind = kind.A })
+
+pub exists_stops : (zones : Answering) (scene : Scene) (address : ℕ → Address) (t : ℕ) (spec : List Piece) (halt : Halt) (asked : List Question)
+    → Settles zones (host_part scene address t (Some spec)) asked asked (Err halt) → Settles zones (exists_part scene address t spec) asked asked (Err halt)
+exists_stops zones scene address t spec halt asked h = settles_first zones asked asked (host_part scene address t (Some spec)) (exists_ask scene address t) halt h
+
+pub exists_gathers : (zones : Answering) (scene : Scene) (address : ℕ → Address) (t : ℕ) (spec : List Piece) (name : Labels) (result : Result Answer Halt) (asked more : List Question)
+    → Settles zones (host_part scene address t (Some spec)) asked asked (Ok name) → Settles zones (exists_ask scene address t name) asked more result
+    → Settles zones (exists_part scene address t spec) asked more result
+exists_gathers zones scene address t spec name result asked more h g =
+    settles_next zones asked asked more (host_part scene address t (Some spec)) (exists_ask scene address t) name result h g

@@ -10,3 +10,4 @@ pub mod Rows
 pub mod Telling
 pub mod Rests
 pub mod Gathering
+pub mod Matching
