@@ -1,7 +1,8 @@
 -- What the hosts of a term have, for every address.
-use Rattle.std.proofs.Common.{◌≡◌, ℕ, ◌≤◌, Bool, true, false, ◌||◌, List, [], ◌∷◌, ◌++◌, map, length, refl, sym, ap, ◌∙◌, subst, append-nil, append_assoc, inl, inr, Contains, Option, Some, None, Result, Ok, Err, arith}
-use Rattle.std.specs.Prelude.{nat_le, filter_map}
+use Rattle.std.proofs.Common.{◌≡◌, ℕ, ◌≤◌, Bool, false, ◌||◌, List, [], ◌∷◌, ◌++◌, map, length, refl, sym, ap, ◌∙◌, subst, append-nil, append_assoc, inl, inr, Option, Some, Result, Ok, Err}
+use Rattle.std.specs.Prelude.{filter_map}
 use Rattle.std.specs.List.{flat_map, list_any}
+use Rattle.std.proofs.Math.Bool.{or_assoc, or-false}
 use Rattle.std.proofs.lemmas.Bool.{le-leb}
 use Rattle.std.proofs.lemmas.List.Concat.{flat_map-append}
 use Rattle.std.proofs.lemmas.List.Folds.{list_any-append}
@@ -17,14 +18,13 @@ use Rattle.spf_model.specs.declared.outcome.Cause.TheVariants as cause
 use Rattle.spf_model.specs.declared.outcome.Counts.{Counts}
 use Rattle.spf_model.specs.declared.outcome.Halt.{Halt}
 use Rattle.spf_model.specs.declared.outcome.Halt.TheVariants.{Ended, Memory}
-use Rattle.spf_model.specs.declared.outcome.Outcome.{Outcome}
 use Rattle.spf_model.specs.declared.outcome.Outcome.TheVariants.{Perm}
 use Rattle.spf_model.specs.Run.{Run, Ends, Answering, AsksFor}
-use Rattle.spf_model.specs.Judging.{Labels, at, go_if, ask_all, address_kind, address_question, exchange_of, bodies_of, is_void}
+use Rattle.spf_model.specs.Judging.{Labels, go_if, ask_all, address_kind, address_question, exchange_of, bodies_of, is_void}
 use Rattle.symbolic_check.specs.declared.gathered.Gathered.{Gathered}
 use Rattle.symbolic_check.specs.declared.scene.Scene.{Scene}
 use Rattle.symbolic_check.specs.Walk.{Follows}
-use Rattle.symbolic_check.specs.Settling.{PartOf, site_at, Passes, Stops, Adds, Settles, SettlesBy}
+use Rattle.symbolic_check.specs.Settling.{PartOf, site_at, Passes, Adds, Settles, SettlesBy}
 use Rattle.symbolic_check.specs.Hosts.{Found, IsGathered, gather_a, gather_exchanges, gather_mx, gather_exists}
 use Rattle.symbolic_check.proofs.Following.{follows_itself, follows_twice, follows_more}
 use Rattle.symbolic_check.proofs.Settling.{then_part, passes_twice, stops_next, stops_first, adds_none, adds_first, adds_twice}
@@ -90,20 +90,12 @@ pub record GatheredSoFar (zones : Answering) (scene : Scene) (address : ℕ → 
       → Follows zones more (hosts_part scene address t kind hosts a counts go) (hosts_part scene address t kind rest a counts (λ later. go (answers ++ later)))
   pub adds : Adds zones (hosts_part scene address t kind hosts) asked more
 
-or_false : (b : Bool) → b ≡ (b || false)
-or_false true = refl
-or_false false = refl
-
-or_assoc : (a b c : Bool) → ((a || b) || c) ≡ (a || (b || c))
-or_assoc true b c = refl
-or_assoc false b c = refl
-
 -- nothing is asked yet
 pub begin : (zones : Answering) (scene : Scene) (address : ℕ → Address) (t : ℕ) (kind : QKind) (before : Bool) (hosts : List Labels) (asked : List Question)
     → GatheredSoFar zones scene address t kind before before [] hosts hosts asked asked
 begin zones scene address t kind before hosts asked = record {
   answers = [];
-  is_void = or_false before;
+  is_void = sym (or-false before);
   is_bodies = refl;
   passes = λ a counts go. follows_itself zones asked (hosts_part scene address t kind hosts a counts go);
   adds = adds_none zones (hosts_part scene address t kind hosts) asked;
@@ -132,7 +124,7 @@ pub step : (zones : Answering) (scene : Scene) (address : ℕ → Address) (t : 
 step zones scene address t kind before void void' bodies bodies' hosts rest host found asked mid more so_far on v b = record {
   answers = so_far.answers ++ found ∷ [];
   is_void = v ∙ ap (λ (x : Bool). x || is_void found) so_far.is_void ∙ or_assoc before (list_any is_void so_far.answers) (is_void found)
-      ∙ ap (λ (x : Bool). before || x) (ap (λ (x : Bool). list_any is_void so_far.answers || x) (or_false (is_void found)) ∙ sym (list_any-append is_void so_far.answers (found ∷ [])));
+      ∙ ap (λ (x : Bool). before || x) (ap (λ (x : Bool). list_any is_void so_far.answers || x) (sym (or-false (is_void found))) ∙ sym (list_any-append is_void so_far.answers (found ∷ [])));
   is_bodies = b ∙ ap (λ (x : List Body). x ++ bodies_of found) so_far.is_bodies
       ∙ ap (λ (x : List Body). flat_map bodies_of so_far.answers ++ x) (sym (append-nil (bodies_of found))) ∙ sym (flat_map-append bodies_of so_far.answers (found ∷ []));
   passes = λ a counts go.
