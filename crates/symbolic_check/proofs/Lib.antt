@@ -6,6 +6,7 @@ pub mod Finding
 pub mod Following
 pub mod Gathering
 pub mod Keying
+pub mod Matching
 pub mod Records
 pub mod Rests
 pub mod Rows
