@@ -11,3 +11,4 @@ pub mod Telling
 pub mod Rests
 pub mod Gathering
 pub mod Matching
+pub mod Records

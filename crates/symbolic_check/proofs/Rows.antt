@@ -1,6 +1,5 @@
 -- A record's terms, one after the other, and rows of networks among them.
-use Rattle.std.proofs.Common.{◌≡◌, ℕ, zero, suc, ◌+◌, ◌-◌, ◌<◌, ◌≤◌, ◌^◌, true, List, [], ◌∷◌, ◌++◌, length, get_or, take, drop, refl, sym, ◌∙◌, ap, subst, inl, arith, add-one, get_or-drop, drop-drop, drop-cons, length-drop, take-append-drop, length-take-le, Option, Some, None, IsSomeAnd}
-use Rattle.std.proofs.Common.{Bool, ◌&&◌}
+use Rattle.std.proofs.Common.{◌≡◌, ℕ, zero, suc, ◌+◌, ◌-◌, ◌<◌, ◌≤◌, ◌^◌, true, List, [], ◌∷◌, ◌++◌, length, get_or, take, drop, refl, sym, ◌∙◌, ap, subst, inl, arith, get_or-drop, drop-drop, length-drop, take-append-drop, take_all, length-take-le, Option, Some, None, IsSomeAnd, Bool, ◌&&◌, Result, Ok, Err, IfOk}
 use Rattle.std.proofs.lemmas.List.Folds.{list_all_more}
 use Rattle.std.specs.List.{list_all}
 use Rattle.addr_bits.specs.Prefix.{Cidr}
@@ -20,7 +19,7 @@ use Rattle.symbolic_check.specs.Steps.{after_networks}
 use Rattle.symbolic_check.specs.Networks.{is_row_term, first_network}
 use Rattle.symbolic_check.specs.Scenes.{judges, number_after, terms_stretch, term_stretch}
 use Rattle.symbolic_check.specs.Settling.{site_at}
-use Rattle.symbolic_check.specs.Walk.{Stretch, Moves, Walks, StepsWith, then_stretch}
+use Rattle.symbolic_check.specs.Walk.{Stretch, Moves, Walks, StepsWith}
 use Rattle.symbolic_check.proofs.Walking.{walks_twice}
 use Rattle.symbolic_check.proofs.Stepping.{networks_move}
 
@@ -89,6 +88,36 @@ row_walks bits zones address scene depth t row found old new asked networks firs
     some_same : {x y : Option Verdict} → Some x ≡ Some y → x ≡ y
     some_same e = cc
 
+pub row_stepped : {E : Type 0} (bits : ℕ) (zones : Answering) (address : ℕ → Address) (scene : Scene) (row : List Term) (found : List (Cidr × Option Verdict)) (old : List (Cidr × State)) (result : Result (List (Cidr × State)) E)
+    → list_all is_row_term row ≡ true
+    → ((a : ℕ) → a < 2 ^ bits → value_at bits found a ≡ Some (first_network row (address a)))
+    → IfOk result (λ new. StepsWith bits after_networks found old new)
+    → IfOk result (λ new. (depth t : ℕ) (asked : List Question) → Walks bits zones (terms_stretch address scene depth t row) old new asked asked)
+row_stepped bits zones address scene row found old (Ok new) networks first steps = λ depth t asked.
+    row_walks bits zones address scene depth t row found old new asked networks first steps
+row_stepped bits zones address scene row found old (Err e) networks first steps = steps
+
+-- a row is passed where a walk over what stands behind it makes a walk over both
+abbrev pub PassesRow : (bits : ℕ) → Answering → (ℕ → Address) → Scene → ℕ → List Term → List (Cidr × State) → List (Cidr × State) → Type 0
+PassesRow bits zones address scene count row old mid = (depth t : ℕ) (rest : List Term) (new : List (Cidr × State)) (asked more : List Question)
+    → Walks bits zones (terms_stretch address scene depth (number_after t count) rest) mid new asked more
+    → Walks bits zones (terms_stretch address scene depth t (row ++ rest)) old new asked more
+
+pub row_passed : {E : Type 0} (bits : ℕ) (zones : Answering) (address : ℕ → Address) (scene : Scene) (count start : ℕ) (terms : List Term) (old : List (Cidr × State)) (result : Result (List (Cidr × State)) E)
+    → count + start ≤ length terms
+    → IfOk result (λ mid. (depth t : ℕ) (asked : List Question) → Walks bits zones (terms_stretch address scene depth t (take count (drop start terms))) old mid asked asked)
+    → IfOk result (PassesRow bits zones address scene count (take count (drop start terms)) old)
+row_passed bits zones address scene count start terms old (Ok mid) within h = λ depth t rest new asked more next.
+    rows_walk bits zones address scene depth t (take count (drop start terms)) rest old mid new asked asked more (h depth t asked)
+    (subst (λ (n : ℕ). Walks bits zones (terms_stretch address scene depth (number_after t n) rest) mid new asked more)
+    (sym (length-take-le count (drop start terms) (omega (arith, within, length-drop start terms)))) next)
+row_passed bits zones address scene count start terms old (Err e) within h = h
+
+pub no_row_passed : (bits : ℕ) (zones : Answering) (address : ℕ → Address) (scene : Scene) (count : ℕ) (terms : List Term) (states : List (Cidr × State))
+    → count ≡ 0 → PassesRow bits zones address scene count (take count terms) states states
+no_row_passed bits zones address scene count terms states none =
+    subst (λ (n : ℕ). PassesRow bits zones address scene n (take n terms) states states) (sym none) (λ depth t rest new asked more next. next)
+
 -- ---- the terms as far as they were walked
 
 -- the terms from one on are left to walk, and those of them that stand before another are a row. So far, a walk over what is left
@@ -140,9 +169,7 @@ pub walked_term : (bits : ℕ) (zones : Answering) (address : ℕ → Address) (
     (start index number : ℕ) (states mid new : List (Cidr × State)) (between more : List Question) (term : Term)
     → WalkedSoFar bits zones address scene depth terms old asked start index number states between
     → index < length terms → term ≡ get_or terms index term
-    → ((t : ℕ) (rest : List Term) (last : List (Cidr × State)) (most : List Question)
-        → Walks bits zones (terms_stretch address scene depth (number_after t (length (take (index - start) (drop start terms)))) rest) mid last between most
-        → Walks bits zones (terms_stretch address scene depth t (take (index - start) (drop start terms) ++ rest)) states last between most)
+    → PassesRow bits zones address scene (index - start) (take (index - start) (drop start terms)) states mid
     → Walks bits zones (term_stretch address scene depth number term) mid new between more
     → WalkedSoFar bits zones address scene depth terms old asked (index + 1) (index + 1) (term_after number) new more
 walked_term bits zones address scene depth terms old asked start index number states mid new between more term so_far below e passes walks = record {
@@ -152,8 +179,8 @@ walked_term bits zones address scene depth terms old asked start index number st
   row = ap (λ (n : ℕ). list_all is_row_term (take n (drop (index + 1) terms))) none_left;
   walks = λ last most h. so_far.walks last most
       (subst (λ (xs : List Term). Walks bits zones (terms_stretch address scene depth so_far.first xs) states last between most) split
-      (passes so_far.first (term ∷ drop (index + 1) terms) last most
-      (subst (λ (t : ℕ). Walks bits zones (terms_stretch address scene depth t (term ∷ drop (index + 1) terms)) mid last between most) counted
+      (passes depth so_far.first (term ∷ drop (index + 1) terms) last between most
+      (subst (λ (t : ℕ). Walks bits zones (terms_stretch address scene depth t (term ∷ drop (index + 1) terms)) mid last between most) so_far.numbered
       (term_walks bits zones address scene depth number term (drop (index + 1) terms) mid new last between more most walks h))));
 }
   where
@@ -171,13 +198,19 @@ walked_term bits zones address scene depth terms old asked start index number st
         ∙ ap (λ (xs : List Term). in_row ++ xs) (ap (λ (n : ℕ). drop n terms) at_index ∙ sym (drop-drop (index - start) start terms))
         ∙ take-append-drop (index - start) (drop start terms)
 
-    counted : number ≡ number_after so_far.first (length in_row)
-    counted = so_far.numbered ∙ ap (number_after so_far.first) (sym (length-take-le (index - start) (drop start terms) (omega (arith, below, so_far.within, length-drop start terms))))
-
 -- the last row is walked
-pub walked_all : (bits : ℕ) (zones : Answering) (address : ℕ → Address) (scene : Scene) (depth : ℕ) (terms : List Term) (old : List (Cidr × State)) (asked : List Question)
-    (start index number : ℕ) (states new : List (Cidr × State)) (between : List Question)
+pub walked_all : {E : Type 0} (bits : ℕ) (zones : Answering) (address : ℕ → Address) (scene : Scene) (depth : ℕ) (terms : List Term) (old : List (Cidr × State)) (asked : List Question)
+    (start index number : ℕ) (states : List (Cidr × State)) (between : List Question) (result : Result (List (Cidr × State)) E)
     → WalkedSoFar bits zones address scene depth terms old asked start index number states between
-    → ((t : ℕ) → Walks bits zones (terms_stretch address scene depth t (drop start terms)) states new between between)
-    → Walks bits zones (terms_stretch address scene depth 1 terms) old new asked between
-walked_all bits zones address scene depth terms old asked start index number states new between so_far walks = so_far.walks new between (walks so_far.first)
+    → IfOk result (λ new. (depth t : ℕ) (asked : List Question) → Walks bits zones (terms_stretch address scene depth t (drop start terms)) states new asked asked)
+    → IfOk result (λ new. Walks bits zones (terms_stretch address scene depth 1 terms) old new asked between)
+walked_all bits zones address scene depth terms old asked start index number states between (Ok new) so_far walks = so_far.walks new between (walks depth so_far.first between)
+walked_all bits zones address scene depth terms old asked start index number states between (Err e) so_far walks = walks
+
+-- at the end of the terms the row is what is left
+pub row_left : (bits : ℕ) (zones : Answering) (address : ℕ → Address) (scene : Scene) (depth : ℕ) (terms : List Term) (old : List (Cidr × State)) (asked : List Question)
+    (start index number : ℕ) (states : List (Cidr × State)) (between : List Question)
+    → WalkedSoFar bits zones address scene depth terms old asked start index number states between → length terms ≤ index
+    → list_all is_row_term (drop start terms) ≡ true
+row_left bits zones address scene depth terms old asked start index number states between so_far over =
+    ap (list_all is_row_term) (sym (take_all (index - start) (drop start terms) (omega (arith, over, length-drop start terms)))) ∙ so_far.row

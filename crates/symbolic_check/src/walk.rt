@@ -1,6 +1,6 @@
 //! check_host for every address of a family: records, their terms, and the records that these ask for (RFC 7208, sections
 //! 4.6, 5.2 and 6.1).
-ghost use Rattle.std.specs.Prelude.{◌≡◌, ◌≤◌, ℕ, true, List, ◌++◌, length, IfOk, Some, suc};
+ghost use Rattle.std.specs.Prelude.{◌≡◌, ◌-◌, ◌≤◌, ℕ, true, List, ◌++◌, length, take, drop, IfOk, Some};
 ghost use Rattle.std.specs.List.{list_all};
 ghost use Rattle.zone_answers.specs.declared.answer.Question.{Question};
 ghost use Rattle.spf_grammar.specs.declared.policy.Term.{Term as GivenTerm};
@@ -52,21 +52,40 @@ impl Scene<'_> {
         steps::match_networks(self.alloc, &states, &found)
     }
 
-    /// A row of networks before another term. Mostly there is none.
+    /// The row of networks before another term. Mostly there is none.
     fn pass_row<W: FamilyWidth>(
         &self,
-        row: &[Term],
+        terms: &[Term],
+        start: usize,
+        end: usize,
         states: States<W>,
     ) -> Result<States<W>, AllocError>
-        requires { list_all networks.is_row_term row.now ≡ true }
+        requires ordered { start ≤ end }
+        requires within { end ≤ length terms.now }
+        requires row { list_all networks.is_row_term (take (end - start) (drop start terms.now)) ≡ true }
         ensures { IfOk result (λ mid. (depth t : ℕ) (rest : List GivenTerm) (new : _) (asked more : List Question)
-            → Walks W.BITS (says self.now.zones.now) (terms_stretch W.address self.now depth (number_after t (length row.now)) rest) mid new asked more
-            → Walks W.BITS (says self.now.zones.now) (terms_stretch W.address self.now depth t (row.now ++ rest)) states new asked more) }
+            → Walks W.BITS (says self.now.zones.now) (terms_stretch W.address self.now depth (number_after t (end - start)) rest) mid new asked more
+            → Walks W.BITS (says self.now.zones.now) (terms_stretch W.address self.now depth t (take (end - start) (drop start terms.now) ++ rest)) states new asked more) }
     {
-        if row.is_empty() {
+        if start == end {
             return Ok(states);
         }
-        self.walk_row(row, states)
+        self.walk_row(&terms[start..end], states)
+    }
+
+    /// The row of networks that ends a record.
+    fn end_row<W: FamilyWidth>(
+        &self,
+        terms: &[Term],
+        start: usize,
+        states: States<W>,
+    ) -> Result<States<W>, AllocError>
+        requires within { start ≤ length terms.now }
+        requires row { list_all networks.is_row_term (drop start terms.now) ≡ true }
+        ensures { IfOk result (λ new. (depth t : ℕ) (asked : List Question) → Walks W.BITS (says self.now.zones.now)
+            (terms_stretch W.address self.now depth t (drop start terms.now)) states new asked asked) }
+    {
+        self.walk_row(&terms[start..], states)
     }
 
     /// What a term makes of the record at the domain of the scene `inner`, which it asks for.
@@ -186,13 +205,13 @@ impl Scene<'_> {
         let mut number = 1u32;
         for index in 0..terms.len() {
             if !is_row_term(&terms[index]) {
-                let passed = self.pass_row(&terms[start..index], walked)?;
+                let passed = self.pass_row(terms, start, index, walked)?;
                 walked = self.walk_term(depth, number, &terms[index], passed, asked)?;
                 start = index + 1;
             }
             number = number.saturating_add(1);
         }
-        self.walk_row(&terms[start..], walked)
+        self.end_row(terms, start, walked)
     }
 
     /// What comes where no directive of the record matches (RFC 7208, sections 4.7 and 6.1).

@@ -1,15 +1,15 @@
-use Rattle.std.proofs.Common.{rules, ◌≡◌, ◌≤◌, ℕ, true, List, ◌++◌, length, IfOk, Some, suc, ◌+◌, ◌-◌, ◌*◌, ◌<◌, ◌/◌, ◌%◌, Bool, false, nat_eq, nat_lt, [], ◌∷◌, slice_index_or, slice_set, bit_and, bit_or, Fits, w8, w32, w64, Bor, MutBor}
-use Rattle.std.specs.List.{list_all}
-use Rattle.zone_answers.specs.declared.answer.Question.{Question}
-use Rattle.spf_grammar.specs.declared.policy.Term.{Term as GivenTerm}
+use Rattle.std.proofs.Common.{arith}
 use Rattle.spf_model.specs.Run.{says}
-use Rattle.spf_model.specs.Check.{check, redirect_from}
-use Rattle.spf_model.specs.Leads.{TargetFits, TermFits, TermsFit}
-use Rattle.symbolic_check.specs.Networks as networks
-use Rattle.symbolic_check.specs.Walk.{Walks}
-use Rattle.symbolic_check.specs.Scenes.{number_after, term_stretch, terms_stretch, default_stretch, record_stretch, target_stretch, judged_stretch}
+use Rattle.std.proofs.Common.{drop, ◌-◌}
+use Rattle.symbolic_check.proofs.Rows.{no_row_passed, row_passed}
 use Rattle.symbolic_check.proofs.scene.Scene.pass_row.Goals as goal
 
--- src/walk.rt:56:5
+pub returns-then-start-end : goal.returns-then-start-end
+returns-then-start-end g c =
+    no_row_passed g.W.Width.BITS (says c.args.self.now.zones.now) g.W.FamilyWidth.address c.args.self.now (c.args.end - c.args.start) (drop c.args.start c.args.terms.now) c.args.states
+    (omega (arith, c.if-start-end.true))
+
 pub returns : goal.returns
-returns g c = ?
+returns g c =
+    row_passed g.W.Width.BITS (says c.args.self.now.zones.now) g.W.FamilyWidth.address c.args.self.now (c.args.end - c.args.start) c.args.start c.args.terms.now c.args.states c.walk_row.result
+    (omega (arith, c.requires.ordered, c.requires.within)) c.walk_row.ensures

@@ -1,15 +1,15 @@
-use Rattle.std.proofs.Common.{rules, ◌≡◌, ◌≤◌, ℕ, true, List, ◌++◌, length, IfOk, Some, suc, ◌+◌, ◌-◌, ◌*◌, ◌<◌, ◌/◌, ◌%◌, Bool, false, nat_eq, nat_lt, [], ◌∷◌, slice_index_or, slice_set, bit_and, bit_or, Fits, w8, w32, w64, Bor, MutBor}
-use Rattle.std.specs.List.{list_all}
-use Rattle.zone_answers.specs.declared.answer.Question.{Question}
-use Rattle.spf_grammar.specs.declared.policy.Term.{Term as GivenTerm}
 use Rattle.spf_model.specs.Run.{says}
-use Rattle.spf_model.specs.Check.{check, redirect_from}
-use Rattle.spf_model.specs.Leads.{TargetFits, TermFits, TermsFit}
-use Rattle.symbolic_check.specs.Networks as networks
-use Rattle.symbolic_check.specs.Walk.{Walks}
-use Rattle.symbolic_check.specs.Scenes.{number_after, term_stretch, terms_stretch, default_stretch, record_stretch, target_stretch, judged_stretch}
+use Rattle.symbolic_check.specs.Scenes.{terms_stretch}
+use Rattle.symbolic_check.proofs.Settling.{walks_idle}
+use Rattle.symbolic_check.proofs.Rows.{row_stepped}
 use Rattle.symbolic_check.proofs.scene.Scene.walk_row.Goals as goal
 
--- src/walk.rt:49:13
 pub returns-then-not-is_some_live : goal.returns-then-not-is_some_live
-returns-then-not-is_some_live g c = ?
+returns-then-not-is_some_live g c = λ depth t asked.
+    walks_idle g.W.Width.BITS (says c.args.self.now.zones.now) (terms_stretch g.W.FamilyWidth.address c.args.self.now depth t c.args.row.now) c.args.states asked
+    (rw c.if-not-is_some_live.true at c.is_some_live.ensures)
+
+pub returns : goal.returns
+returns g c =
+    row_stepped g.W.Width.BITS (says c.args.self.now.zones.now) g.W.FamilyWidth.address c.args.self.now c.args.row.now c.in_ok-found.found c.args.states c.match_networks.result
+    c.requires c.in_ok-found.ensures c.match_networks.ensures
