@@ -1,7 +1,8 @@
 -- What the hosts of a term have, for every address.
-use Rattle.std.proofs.Common.{◌≡◌, ℕ, ◌≤◌, Bool, true, false, ◌||◌, List, [], ◌∷◌, ◌++◌, map, length, refl, sym, ap, ◌∙◌, subst, append-nil, append_assoc, inl, inr, Contains, Option, Some, None, Result, Ok, Err, arith}
-use Rattle.std.specs.Prelude.{nat_le, filter_map}
+use Rattle.std.proofs.Common.{◌≡◌, ℕ, ◌≤◌, Bool, false, ◌||◌, List, [], ◌∷◌, ◌++◌, map, length, refl, sym, ap, ◌∙◌, subst, append-nil, append_assoc, inl, inr, Option, Some, Result, Ok, Err}
+use Rattle.std.specs.Prelude.{filter_map}
 use Rattle.std.specs.List.{flat_map, list_any}
+use Rattle.std.proofs.Math.Bool.{or_assoc, or-false}
 use Rattle.std.proofs.lemmas.Bool.{le-leb}
 use Rattle.std.proofs.lemmas.List.Concat.{flat_map-append}
 use Rattle.std.proofs.lemmas.List.Folds.{list_any-append}
@@ -17,18 +18,17 @@ use Rattle.spf_model.specs.declared.outcome.Cause.TheVariants as cause
 use Rattle.spf_model.specs.declared.outcome.Counts.{Counts}
 use Rattle.spf_model.specs.declared.outcome.Halt.{Halt}
 use Rattle.spf_model.specs.declared.outcome.Halt.TheVariants.{Ended, Memory}
-use Rattle.spf_model.specs.declared.outcome.Outcome.{Outcome}
 use Rattle.spf_model.specs.declared.outcome.Outcome.TheVariants.{Perm}
 use Rattle.spf_model.specs.Run.{Run, Ends, Answering, AsksFor}
-use Rattle.spf_model.specs.Judging.{Labels, at, go_if, ask_all, address_kind, address_question, exchange_of, bodies_of, is_void}
+use Rattle.spf_model.specs.Judging.{Labels, go_if, ask_all, address_kind, address_question, exchange_of, bodies_of, is_void}
 use Rattle.symbolic_check.specs.declared.gathered.Gathered.{Gathered}
 use Rattle.symbolic_check.specs.declared.scene.Scene.{Scene}
 use Rattle.symbolic_check.specs.Walk.{Follows}
-use Rattle.symbolic_check.specs.Settling.{PartOf, site_at, Passes, Stops, Adds, Settles, SettlesBy}
-use Rattle.symbolic_check.specs.Hosts.{Found, IsGathered, gather_a, gather_exchanges, gather_mx}
+use Rattle.symbolic_check.specs.Settling.{PartOf, site_at, Passes, Adds, Settles, SettlesBy}
+use Rattle.symbolic_check.specs.Hosts.{Found, IsGathered, gather_a, gather_exchanges, gather_mx, gather_exists}
 use Rattle.symbolic_check.proofs.Following.{follows_itself, follows_twice, follows_more}
 use Rattle.symbolic_check.proofs.Settling.{then_part, passes_twice, stops_next, stops_first, adds_none, adds_first, adds_twice}
-use Rattle.symbolic_check.proofs.Asking.{host_part, ask_part}
+use Rattle.symbolic_check.proofs.Asking.{settles_first, settles_next, host_part, ask_part}
 
 -- ---- parts that settle by a relation
 
@@ -90,20 +90,12 @@ pub record GatheredSoFar (zones : Answering) (scene : Scene) (address : ℕ → 
       → Follows zones more (hosts_part scene address t kind hosts a counts go) (hosts_part scene address t kind rest a counts (λ later. go (answers ++ later)))
   pub adds : Adds zones (hosts_part scene address t kind hosts) asked more
 
-or_false : (b : Bool) → b ≡ (b || false)
-or_false true = refl
-or_false false = refl
-
-or_assoc : (a b c : Bool) → ((a || b) || c) ≡ (a || (b || c))
-or_assoc true b c = refl
-or_assoc false b c = refl
-
 -- nothing is asked yet
 pub begin : (zones : Answering) (scene : Scene) (address : ℕ → Address) (t : ℕ) (kind : QKind) (before : Bool) (hosts : List Labels) (asked : List Question)
     → GatheredSoFar zones scene address t kind before before [] hosts hosts asked asked
 begin zones scene address t kind before hosts asked = record {
   answers = [];
-  is_void = or_false before;
+  is_void = sym (or-false before);
   is_bodies = refl;
   passes = λ a counts go. follows_itself zones asked (hosts_part scene address t kind hosts a counts go);
   adds = adds_none zones (hosts_part scene address t kind hosts) asked;
@@ -132,15 +124,15 @@ pub step : (zones : Answering) (scene : Scene) (address : ℕ → Address) (t : 
 step zones scene address t kind before void void' bodies bodies' hosts rest host found asked mid more so_far on v b = record {
   answers = so_far.answers ++ found ∷ [];
   is_void = v ∙ ap (λ (x : Bool). x || is_void found) so_far.is_void ∙ or_assoc before (list_any is_void so_far.answers) (is_void found)
-      ∙ ap (λ (x : Bool). before || x) (ap (λ (x : Bool). list_any is_void so_far.answers || x) (or_false (is_void found)) ∙ sym (list_any-append is_void so_far.answers (found ∷ [])));
+      ∙ ap (λ (x : Bool). before || x) (ap (λ (x : Bool). list_any is_void so_far.answers || x) (sym (or-false (is_void found))) ∙ sym (list_any-append is_void so_far.answers (found ∷ [])));
   is_bodies = b ∙ ap (λ (x : List Body). x ++ bodies_of found) so_far.is_bodies
       ∙ ap (λ (x : List Body). flat_map bodies_of so_far.answers ++ x) (sym (append-nil (bodies_of found))) ∙ sym (flat_map-append bodies_of so_far.answers (found ∷ []));
   passes = λ a counts go.
       let first : Follows zones mid (hosts_part scene address t kind hosts a counts go) (hosts_part scene address t kind (host ∷ rest) a counts (λ (later : List Answer). go (so_far.answers ++ later)))
-          = so_far.passes a counts go in
+      = so_far.passes a counts go in
       let next : Follows zones more (hosts_part scene address t kind (host ∷ rest) a counts (λ (later : List Answer). go (so_far.answers ++ later)))
-          (hosts_part scene address t kind rest a counts (λ (later : List Answer). go (so_far.answers ++ found ∷ later)))
-          = on.0 a counts (λ (x : Answer). hosts_part scene address t kind rest a counts (λ (later : List Answer). go (so_far.answers ++ x ∷ later))) in
+      (hosts_part scene address t kind rest a counts (λ (later : List Answer). go (so_far.answers ++ found ∷ later)))
+      = on.0 a counts (λ (x : Answer). hosts_part scene address t kind rest a counts (λ (later : List Answer). go (so_far.answers ++ x ∷ later))) in
       simp append_assoc
       (follows_twice zones more (hosts_part scene address t kind hosts a counts go) (hosts_part scene address t kind (host ∷ rest) a counts (λ (later : List Answer). go (so_far.answers ++ later)))
       (hosts_part scene address t kind rest a counts (λ (later : List Answer). go (so_far.answers ++ found ∷ later)))
@@ -271,3 +263,21 @@ pub mx_gathers : (zones : Answering) (scene : Scene) (address : ℕ → Address)
 mx_gathers zones scene address t spec name found result asked mid more h g e =
     gathers_next IsGathered zones asked asked more (host_part scene address t spec) (mx_next scene address t) name result h
     (gathers_next IsGathered zones asked mid more (mx_ask scene address t name) (exchanges_part scene address t) found result g e)
+
+-- ---- `exists`
+
+abbrev pub exists_part : Scene → (ℕ → Address) → ℕ → List Piece → PartOf Answer
+exists_part scene address t spec a counts go = gather_exists (site_at scene (address a)) t spec counts go
+
+abbrev exists_ask : Scene → (ℕ → Address) → ℕ → Labels → PartOf Answer
+exists_ask scene address t name = ask_part scene address t (record { name = name; kind = kind.A })
+
+pub exists_stops : (zones : Answering) (scene : Scene) (address : ℕ → Address) (t : ℕ) (spec : List Piece) (halt : Halt) (asked : List Question)
+    → Settles zones (host_part scene address t (Some spec)) asked asked (Err halt) → Settles zones (exists_part scene address t spec) asked asked (Err halt)
+exists_stops zones scene address t spec halt asked h = settles_first zones asked asked (host_part scene address t (Some spec)) (exists_ask scene address t) halt h
+
+pub exists_gathers : (zones : Answering) (scene : Scene) (address : ℕ → Address) (t : ℕ) (spec : List Piece) (name : Labels) (result : Result Answer Halt) (asked more : List Question)
+    → Settles zones (host_part scene address t (Some spec)) asked asked (Ok name) → Settles zones (exists_ask scene address t name) asked more result
+    → Settles zones (exists_part scene address t spec) asked more result
+exists_gathers zones scene address t spec name result asked more h g =
+    settles_next zones asked asked more (host_part scene address t (Some spec)) (exists_ask scene address t) name result h g

@@ -7,7 +7,12 @@ pub mod Asking
 pub mod Finding
 pub mod Targets
 pub mod Rows
+pub mod Evaluated
+pub mod Families
+pub mod Keying
+pub mod Seeking
 pub mod Telling
 pub mod Rests
 pub mod Gathering
+pub mod Matching
 pub mod Records

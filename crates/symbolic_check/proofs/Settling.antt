@@ -1,17 +1,16 @@
 -- Parts that every address has alike, one after the other and before a walk.
-use Rattle.std.proofs.Common.{◌≡◌, ℕ, ◌<◌, ◌^◌, true, false, List, refl, sym, subst, inl, inr, Contains, Option, Some, None, IsSomeAnd}
+use Rattle.std.proofs.Common.{◌≡◌, ℕ, false, List, refl, sym, subst, inl, inr, Option, Some, None, IsSomeAnd}
 use Rattle.std.proofs.lemmas.Bool.{true≢false}
 use Rattle.addr_bits.specs.Prefix.{Cidr}
 use Rattle.zone_answers.specs.declared.answer.Question.{Question}
 use Rattle.prefix_trie.specs.Leaves.{value_at}
-use Rattle.spf_grammar.specs.declared.verdict.Verdict.{Verdict}
 use Rattle.spf_model.specs.declared.outcome.Counts.{Counts}
 use Rattle.spf_model.specs.declared.outcome.Outcome.{Outcome}
-use Rattle.spf_model.specs.Run.{Run, Ends, Answering, AsksFor}
+use Rattle.spf_model.specs.Run.{Run, Ends, Answering}
 use Rattle.symbolic_check.specs.declared.state.State.{State}
 use Rattle.symbolic_check.specs.declared.state.State.TheVariants.{Live, Decided, Failed}
 use Rattle.symbolic_check.specs.Steps.{is_live, after_failure}
-use Rattle.symbolic_check.specs.Walk.{Follows, Leaves, Stretch, Moves, AskedBy, Walks, SomeLive, NoneLive, StepsAt}
+use Rattle.symbolic_check.specs.Walk.{Stretch, Moves, Walks, SomeLive, NoneLive, StepsAt}
 use Rattle.symbolic_check.specs.Settling.{PartOf, Passes, Stops, Adds}
 use Rattle.symbolic_check.proofs.Following.{follows_twice, follows_more}
 use Rattle.symbolic_check.proofs.Walking.{Within, leaves_twice}
@@ -120,20 +119,20 @@ walks_passed {A} bits zones part x next old new asked mid more passes adds live 
     | inl here ↦ elim (adds.only q here) [
       | inl there ↦ inl there
       | inr by ↦ inr (record {
-          address = live.0;
-          counts = live.1;
-          within = live.2;
-          live = live.3;
-          asks = λ go. by live.0 live.1 (λ (y : A). next live.0 live.1 y go);
-        })
+        address = live.0;
+        counts = live.1;
+        within = live.2;
+        live = live.3;
+        asks = λ go. by live.0 live.1 (λ (y : A). next live.0 live.1 y go);
+      })
     ]
     | inr by ↦ inr (record {
-        address = by.address;
-        counts = by.counts;
-        within = by.within;
-        live = by.live;
-        asks = λ go. (passes by.address by.counts (λ (y : A). next by.address by.counts y go)).asks q (by.asks go);
-      })
+      address = by.address;
+      counts = by.counts;
+      within = by.within;
+      live = by.live;
+      asks = λ go. (passes by.address by.counts (λ (y : A). next by.address by.counts y go)).asks q (by.asks go);
+    })
   ];
 }
 
@@ -161,12 +160,12 @@ walks_stopped {A} bits zones part outcome next old new asked mid stops adds live
   only = λ q h. elim (adds.only q h) [
     | inl here ↦ inl here
     | inr by ↦ inr (record {
-        address = live.0;
-        counts = live.1;
-        within = live.2;
-        live = live.3;
-        asks = λ go. by live.0 live.1 (λ (y : A). next live.0 live.1 y go);
-      })
+      address = live.0;
+      counts = live.1;
+      within = live.2;
+      live = live.3;
+      asks = λ go. by live.0 live.1 (λ (y : A). next live.0 live.1 y go);
+    })
   ];
 }
 

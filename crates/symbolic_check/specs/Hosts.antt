@@ -1,7 +1,6 @@
 -- The answers that a term gathers before its void is counted (RFC 7208, sections 5.3, 5.4 and 5.7).
 use Rattle.std.specs.Prelude.{◌≡◌, ℕ, Bool, false, nat_le, ◌||◌, List, [], ◌∷◌, map, filter_map, length, Option, Some}
 use Rattle.std.specs.List.{flat_map, list_any}
-use Rattle.master_reader.specs.declared.record.Body.{Body}
 use Rattle.zone_answers.specs.declared.answer.QKind.TheVariants as kind
 use Rattle.zone_answers.specs.declared.answer.Answer.{Answer}
 use Rattle.spf_macros.specs.declared.piece.Piece.{Piece}

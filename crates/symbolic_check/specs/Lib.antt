@@ -6,3 +6,5 @@ pub mod Hosts
 pub mod Scenes
 pub mod Evaluation
 pub mod Laws
+pub mod Keyed
+pub mod Families

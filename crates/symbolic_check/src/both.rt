@@ -4,9 +4,16 @@ ghost use Rattle.dns_name.specs.Name.{name_of_text};
 ghost use Rattle.spf_model.specs.Run.{says};
 ghost use Rattle.spf_model.specs.Result.{AreModest};
 ghost use Rattle.symbolic_check.specs.Evaluation.{IsEvaluation};
+ghost use Rattle.symbolic_check.specs.Families.{AreEndsOf, run_at};
 
+use crate::asked::in_order;
+use crate::networks::FamilyWidth;
+use crate::scene::Scene;
+use crate::state::State;
+use crate::steps;
+use dns_name::Name;
 use prefix_trie::TrieMap;
-use spf_model::{Limits, Outcome};
+use spf_model::{Counts, Limits, Outcome};
 use std::alloc::{AllocError, Global};
 use zone_answers::{Questions, Zones};
 
@@ -18,6 +25,25 @@ pub struct Both {
     /// Each question that the evaluation of some address asks, once, by the bytes of the printed name and then by A, AAAA, MX,
     /// TXT.
     pub asked: Questions,
+}
+
+impl Scene<'_> {
+    /// The outcome of every address of a family. The questions that their evaluations ask are added.
+    fn outcomes<W: FamilyWidth>(
+        &self,
+        asked: &mut Questions,
+    ) -> Result<TrieMap<W, Outcome>, AllocError>
+        requires { AreModest self.now.limits }
+        ensures { IfOk result (λ ends. AreEndsOf W.BITS (says self.now.zones.now) (run_at W.address self.now) ends asked.old asked.new) }
+    {
+        let counts = Counts {
+            lookups: 0,
+            voids: 0,
+        };
+        let begin = TrieMap::whole(self.alloc, State::Live(counts))?;
+        let end = self.walk_record(self.limits.lookups + 1, begin, asked)?;
+        steps::outcomes(self.alloc, &end)
+    }
 }
 
 /// The outcome of check_host (RFC 7208, section 4) for every address of both families, over the lent zones, and the
@@ -33,5 +59,17 @@ pub fn evaluate(
     requires modest { AreModest limits }
     ensures { IfOk result (λ both. IsEvaluation (says zones.now) limits domain.now both.v4 both.v6 both.asked) }
 {
-    Err(AllocError)
+    let name = Name::from_text(domain).unwrap();
+    let scene = Scene {
+        alloc,
+        zones,
+        limits,
+        domain,
+        name: &name,
+    };
+    let mut asked = Questions::new(alloc);
+    let v4 = scene.outcomes(&mut asked)?;
+    let v6 = scene.outcomes(&mut asked)?;
+    let asked = in_order(alloc, &asked)?;
+    Ok(Both { v4, v6, asked })
 }

@@ -1,10 +1,10 @@
-//! The answers that a term gathers before its void is counted (RFC 7208, sections 5.3 and 5.4).
-ghost use Rattle.std.specs.Prelude.{◌≡◌, ◌≤◌, ◌++◌, OnOk, map, option_map};
+//! The answers that a term gathers before its void is counted (RFC 7208, sections 5.3, 5.4 and 5.7).
+ghost use Rattle.std.specs.Prelude.{◌≡◌, ◌++◌, OnOk, Some, map, option_map};
 ghost use Rattle.spf_model.specs.Run.{says};
 ghost use Rattle.spf_model.specs.Judging as judging;
 ghost use Rattle.spf_model.specs.Leads.{TargetFits};
-ghost use Rattle.symbolic_check.specs.Settling.{site_at, SettlesBy};
-ghost use Rattle.symbolic_check.specs.Hosts.{gather_a, gather_mx, gather_exchanges, IsGathered};
+ghost use Rattle.symbolic_check.specs.Settling.{site_at, Settles, SettlesBy};
+ghost use Rattle.symbolic_check.specs.Hosts.{gather_a, gather_mx, gather_exchanges, gather_exists, IsGathered};
 
 use crate::networks::FamilyWidth;
 use crate::scene::Scene;
@@ -107,5 +107,20 @@ impl Scene<'_> {
         let name = self.host_name::<W>(term, spec)?;
         let found = self.ask::<W>(term, &name, QKind::Mx, asked)?;
         self.gather_exchanges::<W>(term, &found, asked)
+    }
+
+    /// What `exists` gathers, which asks for IPv4 addresses in both families (RFC 7208, section 5.7).
+    pub(crate) fn gather_exists<W: FamilyWidth>(
+        &self,
+        term: u32,
+        spec: &MacroText,
+        asked: &mut Questions,
+    ) -> Result<Answer, Halt>
+        requires { TargetFits (Some spec.now) }
+        ensures { Settles (says self.now.zones.now)
+            (λ a counts. gather_exists (site_at self.now (W.address a)) term spec.now counts) asked.old asked.new result }
+    {
+        let name = self.host_name::<W>(term, Some(spec))?;
+        self.ask::<W>(term, &name, QKind::A, asked)
     }
 }

@@ -6,6 +6,7 @@ ghost use Rattle.prefix_trie.specs.Leaves.{value_at};
 ghost use Rattle.symbolic_check.specs.Networks.{network_covers, first_network, with_first, is_in};
 
 use addr_bits::{Family, Prefix, Width};
+use match_sets::{match4, match6};
 use prefix_trie::TrieMap;
 use spf_grammar::{Mechanism, Term, Verdict};
 use std::alloc::{AllocError, Global};
@@ -61,7 +62,7 @@ impl FamilyWidth for u32 {
         len4: u32,
         len6: u32,
     ) -> Result<TrieMap<u32, bool>, AllocError> {
-        Err(AllocError)
+        match4(alloc, found, len4)
     }
 
     fn network(mechanism: &Mechanism) -> Option<Prefix<u32>> {
@@ -91,7 +92,7 @@ impl FamilyWidth for u128 {
         len4: u32,
         len6: u32,
     ) -> Result<TrieMap<u128, bool>, AllocError> {
-        Err(AllocError)
+        match6(alloc, found, len6)
     }
 
     fn network(mechanism: &Mechanism) -> Option<Prefix<u128>> {

@@ -135,11 +135,11 @@ impl Scene<'_> {
         ensures answer { IfOk result (λ answer. answer ≡ says self.now.zones.now (record { name = name.now; kind = kind })) }
         ensures noted { OnOk result (asked.new ≡ asked.old ++ (record { name = name.now; kind = kind }) ∷ []) }
     {
-        let name_asked = name.clone()?;
-        asked.push(Question {
-            name: name_asked,
+        let question = Question {
+            name: name.clone()?,
             kind,
-        })?;
+        };
+        asked.push(question)?;
         self.zones.answer(name, kind)
     }
 
