@@ -7,4 +7,5 @@ pub mod Ends
 pub mod Findings
 pub mod Lines
 pub mod Published
+pub mod Standing
 pub mod Zones

@@ -1,5 +1,6 @@
 //! What holds of all that can be due.
-ghost use Rattle.spfc_top.specs.Chain.{RecordsSpell, RecordsLeadOn};
+ghost use Rattle.spfc_top.specs.Chain.{RecordsAreChain, RecordsSpell, RecordsLeadOn};
+ghost use Rattle.spfc_top.specs.Standing.{RecordsStandAlone, RecordsStandPatched};
 ghost use Rattle.spfc_top.specs.Ends.{OneIsDue};
 
 /// For the same words and the same contents one thing is due at most: one refusal, or one output.
@@ -15,4 +16,20 @@ pub fn records_spell()
 /// The redirect of each record of a chain but the last leads to the name of the next one (RFC 7208, section 6.1).
 pub fn records_lead_on()
     ensures { RecordsLeadOn }
+{}
+
+/// Records that stand at their names are a chain from the domain on (RFC 7208, section 6.1), in whatever zones.
+pub fn records_are_chain()
+    ensures { RecordsAreChain }
+{}
+
+/// The records of a cut that fits may be lent alone, as the zone of the domain, and stand at their names there.
+pub fn records_stand_alone()
+    ensures { RecordsStandAlone }
+{}
+
+/// In the zones that were read, with the SPF texts at the domain replaced by the records of a cut, these stand at their
+/// names, where the domain has no alias and the other names are free.
+pub fn records_stand_patched()
+    ensures { RecordsStandPatched }
 {}

@@ -16,7 +16,10 @@ mod top;
 mod verdicts;
 mod writing;
 
-pub use laws::{one_is_due, records_lead_on, records_spell};
+pub use laws::{
+    one_is_due, records_are_chain, records_lead_on, records_spell, records_stand_alone,
+    records_stand_patched,
+};
 pub use top::run;
 
 #[cfg(test)]

@@ -1,5 +1,5 @@
 -- What a function makes of what stands at each address, by the contract of `combine` alone.
-use Rattle.std.proofs.Common.{◌≡◌, ℕ, ◌<◌, ◌^◌, Bool, true, List, refl, sym, ◌∙◌, ap, Option, Some, None, Result, Ok, Err, IfOk, IsSomeAnd}
+use Rattle.std.proofs.Common.{◌≡◌, ℕ, ◌<◌, ◌^◌, Bool, true, List, sym, ◌∙◌, ap, Option, Some, None, Result, IfOk, IsSomeAnd}
 use Rattle.std.proofs.lemmas.Result.{IfOk-weaker}
 use Rattle.std.specs.Prelude.{option_map}
 use Rattle.addr_bits.specs.Prefix.{Cidr}

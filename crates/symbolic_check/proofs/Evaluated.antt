@@ -1,10 +1,9 @@
 -- The evaluation of every address, from those of both families.
-use Rattle.std.proofs.Common.{◌≡◌, ℕ, ◌<◌, ◌^◌, ◌↔◌, List, [], sym, subst, ◌∙◌, arith, Contains, inl, inr, Option, Some, None, Ok, IsSomeAnd, ap}
+use Rattle.std.proofs.Common.{◌≡◌, ℕ, ◌↔◌, List, [], sym, subst, ◌∙◌, arith, Contains, inl, inr, Option, Some, None, Ok, IsSomeAnd, ap}
 use Rattle.addr_bits.specs.Prefix.{Cidr}
 use Rattle.addr_bits.specs.Address.{IsAddress}
 use Rattle.addr_bits.specs.declared.address.Address.{Address}
 use Rattle.addr_bits.specs.declared.address.Address.TheVariants.{V4, V6}
-use Rattle.dns_name.specs.declared.fault.NameFault.{NameFault}
 use Rattle.dns_name.specs.Name.{name_of_text}
 use Rattle.zone_answers.specs.declared.answer.Question.{Question}
 use Rattle.prefix_trie.specs.Leaves.{value_at}
@@ -14,7 +13,7 @@ use Rattle.spf_model.specs.declared.outcome.Outcome.{Outcome}
 use Rattle.spf_model.specs.Check.{check_host}
 use Rattle.spf_model.specs.Judging.{Labels, legal, name_of}
 use Rattle.spf_model.specs.Result.{Gives, AskedFor, IsAsked, IsInOrder}
-use Rattle.spf_model.specs.Run.{Run, Answering, EndsWith, AsksFor}
+use Rattle.spf_model.specs.Run.{Answering, EndsWith, AsksFor}
 use Rattle.symbolic_check.specs.Evaluation.{IsEvaluation}
 use Rattle.symbolic_check.specs.Families.{AreEndsOf}
 

@@ -1,5 +1,5 @@
 -- The evaluation of a family, from a walk over its record.
-use Rattle.std.proofs.Common.{◌≡◌, ℕ, ◌+◌, suc, ◌<◌, ◌^◌, ◌⊎◌, List, [], refl, sym, subst, inl, inr, ◌∙◌, arith, Contains, Option, Some, None, IsSomeAnd}
+use Rattle.std.proofs.Common.{◌≡◌, ℕ, ◌+◌, suc, ◌<◌, ◌^◌, List, [], refl, sym, subst, inl, inr, ◌∙◌, arith, Contains, Option, Some, None, IsSomeAnd}
 use Rattle.std.specs.Prelude.{option_map}
 use Rattle.addr_bits.specs.Prefix.{Cidr}
 use Rattle.addr_bits.specs.declared.address.Address.{Address}
@@ -21,7 +21,7 @@ use Rattle.symbolic_check.specs.declared.state.State.TheVariants.{Live, Decided,
 use Rattle.symbolic_check.specs.Steps.{outcome_of}
 use Rattle.symbolic_check.specs.Walk.{Follows, Leaves, Moves, Walks}
 use Rattle.symbolic_check.specs.Scenes.{record_stretch}
-use Rattle.symbolic_check.specs.Families.{run_at, AskedBySome, AreEndsOf}
+use Rattle.symbolic_check.specs.Families.{run_at, AreEndsOf}
 
 differ : {p : Place} → Is Neutral ≡ Nothing p → ⊥
 differ e = cc
@@ -30,7 +30,7 @@ differ e = cc
 goes_nowhere : (zones : Answering) (asked : List Question) (run : Run) (c : Counts) → ((go : Counts → Run) → Follows zones asked run (go c)) → ⊥
 goes_nowhere zones asked run c h =
     differ (one_end (one_policy one_address) zones run (Is Neutral) (Nothing none) c c
-        (((h (Ends (Is Neutral))).ends (Is Neutral) c).0 (refl, refl)) (((h (Ends (Nothing none))).ends (Nothing none) c).0 (refl, refl))).0
+    (((h (Ends (Is Neutral))).ends (Is Neutral) c).0 (refl, refl)) (((h (Ends (Nothing none))).ends (Nothing none) c).0 (refl, refl))).0
   where
     none : Place
     none = record { name = []; term = 0 }
@@ -55,7 +55,7 @@ over_at zones asked run begin old (Some state) end e h ends =
     let moved = subst (λ o. IsSomeAnd o (λ s. IsSomeAnd (Some state) (Moves zones asked (λ counts go. run counts) s))) e h in
     let found = over zones asked (run begin) state moved in (
       subst (λ o. IsSomeAnd o (λ outcome. (counts : Counts) × EndsWith zones (run begin) outcome counts)) (sym ends)
-      (found.0, (found.1.ends (outcome_of state) found.0).0 (refl, refl)),
+          (found.0, (found.1.ends (outcome_of state) found.0).0 (refl, refl)),
       λ q asks. elim (found.1.covers q asks) [ inl here ↦ here | inr later ↦ absurd later ],
     )
 
@@ -73,10 +73,10 @@ ends_of_walk bits zones run begin old new ends asked more whole walk made = reco
   only = λ q h. elim (walk.only q h) [
     | inl here ↦ inl here
     | inr by ↦ inr (
-        by.address,
-        by.within,
-        subst (λ c. AsksFor zones (run by.address c) q) (same_counts (sym by.live ∙ whole by.address by.within)) (by.asks (Ends (Is Neutral))),
-      )
+      by.address,
+      by.within,
+      subst (λ c. AsksFor zones (run by.address c) q) (same_counts (sym by.live ∙ whole by.address by.within)) (by.asks (Ends (Is Neutral))),
+    )
   ];
   covers = λ q h. (at h.0 h.1).1 q h.2;
 }

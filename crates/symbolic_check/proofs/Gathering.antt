@@ -129,10 +129,10 @@ step zones scene address t kind before void void' bodies bodies' hosts rest host
       ∙ ap (λ (x : List Body). flat_map bodies_of so_far.answers ++ x) (sym (append-nil (bodies_of found))) ∙ sym (flat_map-append bodies_of so_far.answers (found ∷ []));
   passes = λ a counts go.
       let first : Follows zones mid (hosts_part scene address t kind hosts a counts go) (hosts_part scene address t kind (host ∷ rest) a counts (λ (later : List Answer). go (so_far.answers ++ later)))
-          = so_far.passes a counts go in
+      = so_far.passes a counts go in
       let next : Follows zones more (hosts_part scene address t kind (host ∷ rest) a counts (λ (later : List Answer). go (so_far.answers ++ later)))
-          (hosts_part scene address t kind rest a counts (λ (later : List Answer). go (so_far.answers ++ found ∷ later)))
-          = on.0 a counts (λ (x : Answer). hosts_part scene address t kind rest a counts (λ (later : List Answer). go (so_far.answers ++ x ∷ later))) in
+      (hosts_part scene address t kind rest a counts (λ (later : List Answer). go (so_far.answers ++ found ∷ later)))
+      = on.0 a counts (λ (x : Answer). hosts_part scene address t kind rest a counts (λ (later : List Answer). go (so_far.answers ++ x ∷ later))) in
       simp append_assoc
       (follows_twice zones more (hosts_part scene address t kind hosts a counts go) (hosts_part scene address t kind (host ∷ rest) a counts (λ (later : List Answer). go (so_far.answers ++ later)))
       (hosts_part scene address t kind rest a counts (λ (later : List Answer). go (so_far.answers ++ found ∷ later)))

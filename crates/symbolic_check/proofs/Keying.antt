@@ -11,10 +11,8 @@ use Rattle.std.specs.declared.cmp.Ordering.{Ordering}
 use Rattle.std.specs.declared.cmp.Ordering.TheVariants.{Less, Equal, Greater}
 use Rattle.std.specs.List.Sorted.{IsStrictlySortedBy}
 use Rattle.std.specs.Map.{keys_of, values_of}
-use Rattle.std.specs.Ordering.{nat_cmp, ordering_then, match_ordering, is_eq, MatchOrdering}
+use Rattle.std.specs.Ordering.{nat_cmp, ordering_then, match_ordering, is_eq}
 use Rattle.std.specs.BTreeMap.{insert_entry}
-use Rattle.dns_name.specs.Name.{IsName}
-use Rattle.dns_name.specs.Printed.{printed_name, name_cmp}
 use Rattle.dns_name.proofs.Printing.{names_differ}
 use Rattle.zone_answers.specs.declared.answer.QKind.{QKind}
 use Rattle.zone_answers.specs.declared.answer.QKind.TheVariants.{A, Aaaa, Mx, Txt}
@@ -74,9 +72,9 @@ stands_before : (p q : Question) (k l : Key) → IsKeyOf p k → IsKeyOf q l →
 stands_before p q k l h g e = elim (then_less (slice_cmp nat_cmp k.text.items l.text.items) (nat_cmp k.kind l.kind) e) [
   | inl less ↦ inl (ap₂ (λ x y. slice_cmp nat_cmp x y) (sym h.text) (sym g.text) ∙ less)
   | inr both ↦ inr (
-      one_name p q k l h g (texts_equal k.text.items l.text.items both.0),
-      subst (λ n. n < kind_number q.kind) h.kind (subst (λ n. k.kind < n) g.kind (ranked k.kind l.kind Less (sym both.1))),
-    )
+    one_name p q k l h g (texts_equal k.text.items l.text.items both.0),
+    subst (λ n. n < kind_number q.kind) h.kind (subst (λ n. k.kind < n) g.kind (ranked k.kind l.kind Less (sym both.1))),
+  )
 ]
 
 -- so questions by rising key are in order
@@ -154,12 +152,12 @@ inserted (e ∷ es) k q key keyed =
 pub more_taken : (asked : List Question) (i : ℕ) (q x : Question) → i < length asked → q ≡ get_or asked i q
     → Contains (take (i + 1) asked) x ↔ (Contains (take i asked) x ⊎ (q ≡ x))
 more_taken asked i q x below is = subst (λ xs. Contains xs x ↔ (Contains (take i asked) x ⊎ (q ≡ x))) (sym grown) (
-    λ h. Contains-push_cases (take i asked) q x h,
-    λ h. elim h [
-      | inl old ↦ Contains-append_left (take i asked) (q ∷ []) x old
-      | inr new ↦ subst (λ y. Contains (take i asked ++ q ∷ []) y) new (Contains-push (take i asked) q)
-    ],
-  )
+  λ h. Contains-push_cases (take i asked) q x h,
+  λ h. elim h [
+    | inl old ↦ Contains-append_left (take i asked) (q ∷ []) x old
+    | inr new ↦ subst (λ y. Contains (take i asked ++ q ∷ []) y) new (Contains-push (take i asked) q)
+  ],
+)
   where
     grown : take (i + 1) asked ≡ take i asked ++ q ∷ []
     grown = rw (add-one) (take-suc asked i q below) ∙ ap (λ (y : Question). take i asked ++ y ∷ []) (sym is)
@@ -173,7 +171,7 @@ put_more old new k q own asked i e same key below is keyed so_far =
     let made : new ≡ insert_entry key_order.cmp-value.it old k q = e ∙ ap (λ (p : Question). insert_entry key_order.cmp-value.it old k p) same in (
       subst AreKeyed (sym made) put.0,
       λ x. let taken = more_taken asked i q x below is in subst (λ entries. Contains (values_of entries) x ↔ Contains (take (i + 1) asked) x) (sym made) (
-          λ h. taken.1 (elim ((put.1 x).0 h) [ inl before ↦ inl ((so_far x).0 before) | inr new ↦ inr new ]),
-          λ h. (put.1 x).1 (elim (taken.0 h) [ inl before ↦ inl ((so_far x).1 before) | inr new ↦ inr new ]),
-        ),
+        λ h. taken.1 (elim ((put.1 x).0 h) [ inl before ↦ inl ((so_far x).0 before) | inr new ↦ inr new ]),
+        λ h. (put.1 x).1 (elim (taken.0 h) [ inl before ↦ inl ((so_far x).1 before) | inr new ↦ inr new ]),
+      ),
     )

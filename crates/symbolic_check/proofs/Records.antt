@@ -1,5 +1,5 @@
 -- A record of a walk: what it asks for, its terms, and what comes where none matches.
-use Rattle.std.proofs.Common.{◌≡◌, ℕ, zero, suc, ◌+◌, ◌-◌, ◌<◌, ◌^◌, true, List, [], ◌∷◌, length, get_or, refl, sym, subst, ap, arith, add-one, Option, Some, None, Result, Ok, Err, IfOk}
+use Rattle.std.proofs.Common.{◌≡◌, ℕ, zero, suc, ◌-◌, ◌<◌, true, List, [], ◌∷◌, length, get_or, refl, sym, subst, arith, Option, Some, None, Result, Ok, Err, IfOk}
 use Rattle.addr_bits.specs.Prefix.{Cidr}
 use Rattle.addr_bits.specs.declared.address.Address.{Address}
 use Rattle.zone_answers.specs.declared.answer.Question.{Question}
@@ -13,12 +13,11 @@ use Rattle.spf_grammar.specs.declared.policy.Term.TheVariants.{Directive}
 use Rattle.spf_model.specs.declared.outcome.Cause.TheVariants as cause
 use Rattle.spf_model.specs.declared.outcome.Counts.{Counts}
 use Rattle.spf_model.specs.declared.outcome.Place.{Place}
-use Rattle.spf_model.specs.declared.outcome.Halt.{Halt}
 use Rattle.spf_model.specs.declared.outcome.Halt.TheVariants.{Ended}
 use Rattle.spf_model.specs.declared.outcome.Outcome.{Outcome}
 use Rattle.spf_model.specs.declared.outcome.Outcome.TheVariants.{Perm}
-use Rattle.spf_model.specs.Run.{Run, Ends, Answering, then_do}
-use Rattle.spf_model.specs.Judging.{Labels, judge, judged_by, counted}
+use Rattle.spf_model.specs.Run.{Run, Answering, then_do}
+use Rattle.spf_model.specs.Judging.{Labels, judged_by, counted}
 use Rattle.spf_model.specs.Check.{check, with_record, evaluated, redirect_from}
 use Rattle.spf_model.specs.Leads.{TargetFits, TermFits, TermsFit}
 use Rattle.symbolic_check.specs.declared.scene.Scene.{Scene}

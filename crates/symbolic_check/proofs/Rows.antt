@@ -1,6 +1,5 @@
 -- A record's terms, one after the other, and rows of networks among them.
-use Rattle.std.proofs.Common.{◌≡◌, ℕ, zero, suc, ◌+◌, ◌-◌, ◌<◌, ◌≤◌, ◌^◌, true, List, [], ◌∷◌, ◌++◌, length, get_or, take, drop, refl, sym, ◌∙◌, ap, subst, inl, arith, add-one, get_or-drop, drop-drop, drop-cons, length-drop, take-append-drop, take_all, length-take-le, Option, Some, None, IsSomeAnd}
-use Rattle.std.proofs.Common.{Bool, ◌&&◌, Result, Ok, Err, IfOk}
+use Rattle.std.proofs.Common.{◌≡◌, ℕ, zero, suc, ◌+◌, ◌-◌, ◌<◌, ◌≤◌, ◌^◌, true, List, [], ◌∷◌, ◌++◌, length, get_or, take, drop, refl, sym, ◌∙◌, ap, subst, inl, arith, get_or-drop, drop-drop, length-drop, take-append-drop, take_all, length-take-le, Option, Some, None, IsSomeAnd, Bool, ◌&&◌, Result, Ok, Err, IfOk}
 use Rattle.std.proofs.lemmas.List.Folds.{list_all_more}
 use Rattle.std.specs.List.{list_all}
 use Rattle.addr_bits.specs.Prefix.{Cidr}
@@ -20,7 +19,7 @@ use Rattle.symbolic_check.specs.Steps.{after_networks}
 use Rattle.symbolic_check.specs.Networks.{is_row_term, first_network}
 use Rattle.symbolic_check.specs.Scenes.{judges, number_after, terms_stretch, term_stretch}
 use Rattle.symbolic_check.specs.Settling.{site_at}
-use Rattle.symbolic_check.specs.Walk.{Stretch, Moves, Walks, StepsWith, then_stretch}
+use Rattle.symbolic_check.specs.Walk.{Stretch, Moves, Walks, StepsWith}
 use Rattle.symbolic_check.proofs.Walking.{walks_twice}
 use Rattle.symbolic_check.proofs.Stepping.{networks_move}
 

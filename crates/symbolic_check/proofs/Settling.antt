@@ -119,20 +119,20 @@ walks_passed {A} bits zones part x next old new asked mid more passes adds live 
     | inl here ↦ elim (adds.only q here) [
       | inl there ↦ inl there
       | inr by ↦ inr (record {
-          address = live.0;
-          counts = live.1;
-          within = live.2;
-          live = live.3;
-          asks = λ go. by live.0 live.1 (λ (y : A). next live.0 live.1 y go);
-        })
+        address = live.0;
+        counts = live.1;
+        within = live.2;
+        live = live.3;
+        asks = λ go. by live.0 live.1 (λ (y : A). next live.0 live.1 y go);
+      })
     ]
     | inr by ↦ inr (record {
-        address = by.address;
-        counts = by.counts;
-        within = by.within;
-        live = by.live;
-        asks = λ go. (passes by.address by.counts (λ (y : A). next by.address by.counts y go)).asks q (by.asks go);
-      })
+      address = by.address;
+      counts = by.counts;
+      within = by.within;
+      live = by.live;
+      asks = λ go. (passes by.address by.counts (λ (y : A). next by.address by.counts y go)).asks q (by.asks go);
+    })
   ];
 }
 
@@ -160,12 +160,12 @@ walks_stopped {A} bits zones part outcome next old new asked mid stops adds live
   only = λ q h. elim (adds.only q h) [
     | inl here ↦ inl here
     | inr by ↦ inr (record {
-        address = live.0;
-        counts = live.1;
-        within = live.2;
-        live = live.3;
-        asks = λ go. by live.0 live.1 (λ (y : A). next live.0 live.1 y go);
-      })
+      address = live.0;
+      counts = live.1;
+      within = live.2;
+      live = live.3;
+      asks = λ go. by live.0 live.1 (λ (y : A). next live.0 live.1 y go);
+    })
   ];
 }
 

@@ -1,5 +1,5 @@
 -- What a term makes of the record that it asks for.
-use Rattle.std.proofs.Common.{◌≡◌, ℕ, ◌<◌, ◌^◌, Bool, true, false, cond, List, refl, sym, ap, subst, inl, inr, Contains, Option, Some, None, IsSomeAnd}
+use Rattle.std.proofs.Common.{◌≡◌, ℕ, Bool, true, false, cond, List, refl, sym, ap, subst, inl, inr, Option, Some, None, IsSomeAnd}
 use Rattle.std.proofs.lemmas.Bool.{true≢false}
 use Rattle.addr_bits.specs.Prefix.{Cidr}
 use Rattle.addr_bits.specs.declared.address.Address.{Address}
@@ -13,7 +13,7 @@ use Rattle.spf_model.specs.declared.outcome.Cause.TheVariants as cause
 use Rattle.spf_model.specs.declared.outcome.Counts.{Counts}
 use Rattle.spf_model.specs.declared.outcome.Outcome.{Outcome}
 use Rattle.spf_model.specs.declared.outcome.Outcome.TheVariants.{Nothing, Is, Perm, Temp, Unsettled}
-use Rattle.spf_model.specs.Run.{Run, Ends, Answering, AsksFor, EndsWith, then_do}
+use Rattle.spf_model.specs.Run.{Run, Ends, Answering, then_do}
 use Rattle.spf_model.specs.Judging.{Site, at, is_pass, judged_by}
 use Rattle.spf_model.specs.Check.{unless_matched}
 use Rattle.spf_model.specs.Leads.{NoVerdict}
@@ -23,7 +23,7 @@ use Rattle.symbolic_check.specs.declared.state.State.TheVariants.{Live, Decided,
 use Rattle.symbolic_check.specs.declared.state.Purpose.{Purpose}
 use Rattle.symbolic_check.specs.declared.state.Purpose.TheVariants.{Include, Redirect}
 use Rattle.symbolic_check.specs.Steps.{entered, used, from_target, after_target, required}
-use Rattle.symbolic_check.specs.Walk.{Follows, Leaves, Stretch, Moves, AskedBy, Walks, StepsAt, StepsWith}
+use Rattle.symbolic_check.specs.Walk.{Follows, Leaves, Stretch, Moves, Walks, StepsAt, StepsWith}
 use Rattle.symbolic_check.specs.declared.scene.Scene.{Scene}
 use Rattle.symbolic_check.specs.Settling.{site_at}
 use Rattle.symbolic_check.specs.Scenes.{goes_on, judged_stretch}
@@ -47,10 +47,10 @@ pass_not_neutral e = true≢false (ap passes e)
 -- a run that others go on from has one end, so it doesn't end as whatever comes after it
 never_live : (zones : Answering) (asked : List Question) (run : Run) (c : Counts) → ((go : Counts → Run) → Follows zones asked run (go c)) → ⊥
 never_live zones asked run c h = pass_not_neutral (
-  one_end (one_policy one_address) zones run (Is Pass) (Is Neutral) c c
-  (((h (λ counts. Ends (Is Pass) counts)).ends (Is Pass) c).0 (refl, refl))
-  (((h (λ counts. Ends (Is Neutral) counts)).ends (Is Neutral) c).0 (refl, refl))
-).0
+    one_end (one_policy one_address) zones run (Is Pass) (Is Neutral) c c
+    (((h (λ counts. Ends (Is Pass) counts)).ends (Is Pass) c).0 (refl, refl))
+    (((h (λ counts. Ends (Is Neutral) counts)).ends (Is Neutral) c).0 (refl, refl))
+    ).0
 
 -- a verdict is used
 verdict_used : (zones : Answering) (asked : List Question) (purpose : Purpose) (verdict : Verdict) (c : Counts)
@@ -85,8 +85,8 @@ judged_leaves zones asked site t purpose run c (Failed outcome) h = (
   λ go. let end = h.1 go in (
     end.0,
     follows_twice zones asked (judged site t purpose run c go) (judged_by site t (goes_on purpose go) outcome end.0) (Ends (required (at site t) outcome) end.0)
-    (follows_within zones asked (run c) (Ends outcome end.0) (judged_by site t (goes_on purpose go)) end.1)
-    (failure_used zones asked site t purpose outcome go end.0 h.0).1,
+        (follows_within zones asked (run c) (Ends outcome end.0) (judged_by site t (goes_on purpose go)) end.1)
+        (failure_used zones asked site t purpose outcome go end.0 h.0).1,
   ),
 )
 
@@ -130,11 +130,11 @@ judged_walk bits zones address scene t purpose run old within inner new asked mo
   only = λ q h. elim (walks.only q h) [
     | inl here ↦ inl here
     | inr by ↦ inr (record {
-        address = by.address;
-        counts = by.counts;
-        within = by.within;
-        live = live_before_entry (value_at bits old by.address) (value_at bits within by.address) by.counts (enters by.address by.within) by.live;
-        asks = λ go. asks_first zones (run by.address by.counts) (judged_by (site_at scene (address by.address)) t (goes_on purpose go)) q (by.asks go);
-      })
+      address = by.address;
+      counts = by.counts;
+      within = by.within;
+      live = live_before_entry (value_at bits old by.address) (value_at bits within by.address) by.counts (enters by.address by.within) by.live;
+      asks = λ go. asks_first zones (run by.address by.counts) (judged_by (site_at scene (address by.address)) t (goes_on purpose go)) q (by.asks go);
+    })
   ];
 }

@@ -1,12 +1,11 @@
 -- The tests of equality of states and of outcomes tell values apart.
-use Rattle.std.proofs.Common.{rules, ◌≡◌, ℕ, ◌&&◌, ◌==◌, Bool, true, false, List, refl, sym, ap, ap₂}
+use Rattle.std.proofs.Common.{rules, ◌≡◌, ℕ, ◌&&◌, ◌==◌, true, false, List, refl, ap, ap₂}
 use Rattle.std.proofs.lemmas.Bool.{and_parts, both_ways}
 use Rattle.std.proofs.lemmas.Bool.Decides.{Decides-eqb}
 use Rattle.std.specs.Prelude.{bytes_eq}
 use Rattle.std.specs.Cmp.Lexicographic.{pointwise}
 use denote.Enum.Bare.{same_true}
 use Rattle.dns_name.proofs.Names.{same_name_decides}
-use Rattle.spf_grammar.specs.declared.verdict.Verdict.{Verdict}
 use Rattle.spf_grammar.specs.contracts.verdict.Verdict as verdict_declared
 use Rattle.spf_grammar.specs.contracts.verdict.VerdictPartialEq.TheImpl as verdict_test
 use Rattle.spf_model.specs.declared.outcome.Cause.{Cause}
@@ -19,7 +18,6 @@ use Rattle.spf_model.specs.contracts.outcome.PlacePartialEq.TheImpl as place_tes
 use Rattle.spf_model.specs.declared.outcome.Outcome.{Outcome}
 use Rattle.spf_model.specs.declared.outcome.Outcome.TheVariants.{Nothing, Is, Perm, Temp, Unsettled}
 use Rattle.spf_model.specs.contracts.outcome.OutcomePartialEq.TheImpl as outcome_test
-use Rattle.symbolic_check.specs.declared.state.State.{State}
 use Rattle.symbolic_check.specs.declared.state.State.TheVariants.{Live, Decided, Failed}
 use Rattle.symbolic_check.specs.contracts.state.StatePartialEq.TheImpl as state_test
 use Rattle.symbolic_check.proofs.Combining.{Tells}

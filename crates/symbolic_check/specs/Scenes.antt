@@ -1,5 +1,5 @@
 -- The stretches of a record, by the number of the address (the project's own form of RFC 7208, section 4.6).
-use Rattle.std.specs.Prelude.{ℕ, zero, suc, List, Option, Some}
+use Rattle.std.specs.Prelude.{ℕ, zero, suc, List, Option}
 use Rattle.addr_bits.specs.declared.address.Address.{Address}
 use Rattle.spf_macros.specs.declared.piece.Piece.{Piece}
 use Rattle.spf_grammar.specs.declared.verdict.Verdict.{Verdict}
@@ -8,7 +8,7 @@ use Rattle.spf_model.specs.declared.outcome.Counts.{Counts}
 use Rattle.spf_model.specs.declared.outcome.Outcome.TheVariants.{Is}
 use Rattle.spf_model.specs.Run.{Run, Ends, then_do}
 use Rattle.spf_model.specs.Judging.{Judge, judge, judged_by, is_pass, with_verdict}
-use Rattle.spf_model.specs.Check.{check, trying, tried, term_after, default, redirect_from, unless_matched}
+use Rattle.spf_model.specs.Check.{check, trying, tried, term_after, default, unless_matched}
 use Rattle.symbolic_check.specs.declared.scene.Scene.{Scene}
 use Rattle.symbolic_check.specs.declared.state.Purpose.{Purpose}
 use Rattle.symbolic_check.specs.declared.state.Purpose.TheVariants.{Include, Redirect}

@@ -126,12 +126,7 @@ pub(crate) fn match_networks<W: Width>(
 pub(crate) fn enter<W: Width>(alloc: Global, states: &States<W>) -> Result<States<W>, AllocError>
     ensures { IfOk result (λ new. StepsAt W.BITS (λ a. step.entered) states.now new) }
 {
-    TrieMap::combine(
-        alloc,
-        states,
-        states,
-        |state, _| Ok(state.entered()),
-    )
+    TrieMap::combine(alloc, states, states, |state, _| Ok(state.entered()))
 }
 
 /// What a term makes of the record that it asks for (RFC 7208, sections 5.2 and 6.1). `inner` is what stands after that
@@ -160,10 +155,5 @@ pub(crate) fn outcomes<W: Width>(
 ) -> Result<TrieMap<W, Outcome>, AllocError>
     ensures { IfOk result (λ ends. (a : ℕ) → a < 2 ^ W.BITS → value_at W.BITS ends a ≡ option_map step.outcome_of (value_at W.BITS states.now a)) }
 {
-    TrieMap::combine(
-        alloc,
-        states,
-        states,
-        |state, _| state.outcome(),
-    )
+    TrieMap::combine(alloc, states, states, |state, _| state.outcome())
 }

@@ -1,8 +1,6 @@
-use Rattle.std.proofs.Common.{◌≡◌, ◌≤◌, ◌↔◌, ◌⊎◌, inl, inr, Contains, length, take, sym, subst, arith, ◌∙◌}
+use Rattle.std.proofs.Common.{◌≡◌, ◌↔◌, Contains, take, subst, arith}
 use Rattle.std.proofs.lemmas.List.{take_all}
 use Rattle.std.specs.Map.{values_of}
-use Rattle.zone_answers.specs.declared.answer.Question.{Question}
-use Rattle.symbolic_check.specs.Keyed.{AreKeyed, IsKeyOf}
 use Rattle.symbolic_check.proofs.Keying.{put_more}
 use Rattle.symbolic_check.proofs.asked.by_key.Goals as goal
 

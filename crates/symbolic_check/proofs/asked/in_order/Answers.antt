@@ -1,7 +1,6 @@
-use Rattle.std.proofs.Common.{◌↔◌, Contains, sym, subst, ◌∙◌}
+use Rattle.std.proofs.Common.{◌↔◌, Contains, sym, subst}
 use Rattle.std.proofs.lemmas.Result.{IfOk-weaker}
 use Rattle.std.specs.Map.{values_of}
-use Rattle.zone_answers.specs.declared.answer.Question.{Question}
 use Rattle.spf_model.specs.Result.{IsInOrder}
 use Rattle.symbolic_check.proofs.Keying.{rising}
 use Rattle.symbolic_check.proofs.asked.in_order.Goals as goal
@@ -16,5 +15,5 @@ pub returns-clause-same : goal.returns-clause-same
 returns-clause-same c =
     IfOk-weaker c.in_turn.result _ _
     (λ questions e question. subst (λ qs. Contains qs question ↔ Contains c.args.asked.now question) (sym e)
-        (subst (λ asked. Contains (values_of c.in_ok-found.found.entries) question ↔ Contains asked question) c.as_slice.ensures (c.in_ok-found.ensures.same question)))
+    (subst (λ asked. Contains (values_of c.in_ok-found.found.entries) question ↔ Contains asked question) c.as_slice.ensures (c.in_ok-found.ensures.same question)))
     c.in_turn.ensures

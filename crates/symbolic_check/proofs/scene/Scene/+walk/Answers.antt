@@ -1,7 +1,7 @@
-use Rattle.std.proofs.Common.{rules, ◌+◌, ◌-◌, drop, subst, sym, ap, ◌∙◌, ◌<◌, ◌≤◌, ◌≡◌, refl, arith, Option, Some, None, List}
+use Rattle.std.proofs.Common.{subst, sym, ◌∙◌, arith, List}
 use Rattle.spf_grammar.specs.declared.policy.Term.{Term}
 use Rattle.spf_model.specs.Run.{says}
-use Rattle.spf_model.specs.Check.{check, redirect_from}
+use Rattle.spf_model.specs.Check.{check}
 use Rattle.spf_model.specs.Leads.{TermsFit}
 use Rattle.spf_model.proofs.Terms.{redirect_fits}
 use Rattle.symbolic_check.proofs.Rows.{walked_none, walked_row, walked_term, walked_all, row_left}

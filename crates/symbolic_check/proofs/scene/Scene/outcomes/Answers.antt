@@ -7,5 +7,5 @@ pub returns : goal.returns
 returns g c =
     IfOk-weaker c.outcomes.result _ _
     (λ ends made. family_ends g.W.Width.BITS (says c.args.self.now.zones.now) g.W.FamilyWidth.address c.args.self.now
-        c.in_ok-begin.begin c.in_ok-end.end ends c.args.asked.now c.walk_record.new.asked c.in_ok-begin.ensures.value c.in_ok-end.ensures made)
+    c.in_ok-begin.begin c.in_ok-end.end ends c.args.asked.now c.walk_record.new.asked c.in_ok-begin.ensures.value c.in_ok-end.ensures made)
     c.outcomes.ensures
