@@ -5,6 +5,5 @@ pub mod Combining
 pub mod Evaluated
 pub mod Families
 pub mod Keying
-pub mod Seeking
 pub mod Telling
 pub mod Rests
