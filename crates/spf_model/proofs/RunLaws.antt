@@ -101,7 +101,7 @@ same_asked_back zones others (Reads text next) question same asked =
     (asked.0, asked.1, same_asked_back zones others (next asked.0) question (λ q below. same q (asked.0, asked.1, below)) asked.2)
 
 -- the grammar reads a text in one way
-read_once : OnePolicy → (text : List ℕ) (p q : Option Policy) → ReadAs text p → ReadAs text q → p ≡ q
+pub read_once : OnePolicy → (text : List ℕ) (p q : Option Policy) → ReadAs text p → ReadAs text q → p ≡ q
 read_once one text None None h g = refl
 read_once one text None (Some q) h g = absurd (h q g)
 read_once one text (Some p) None h g = absurd (g p h)

@@ -2,8 +2,16 @@ pub mod Following
 pub mod Walking
 pub mod Stepping
 pub mod Combining
+pub mod Settling
+pub mod Asking
+pub mod Finding
+pub mod Targets
+pub mod Rows
 pub mod Evaluated
 pub mod Families
 pub mod Keying
 pub mod Telling
 pub mod Rests
+pub mod Gathering
+pub mod Matching
+pub mod Records

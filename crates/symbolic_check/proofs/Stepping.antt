@@ -21,7 +21,7 @@ use Rattle.symbolic_check.specs.declared.state.State.{State}
 use Rattle.symbolic_check.specs.declared.state.State.TheVariants.{Live, Decided, Failed}
 use Rattle.symbolic_check.specs.Steps.{after_lookup, after_void, after_match, after_failure, after_networks}
 use Rattle.symbolic_check.specs.Walk.{Follows, Leaves, Stretch, Moves}
-use Rattle.symbolic_check.specs.Networks.{is_network, is_network_term, network_covers, first_network}
+use Rattle.symbolic_check.specs.Networks.{is_network, is_row_term, network_covers, first_network}
 use Rattle.symbolic_check.proofs.Following.{follows_itself}
 use Rattle.symbolic_check.proofs.Walking.{leaves_same}
 
@@ -81,11 +81,11 @@ judge_network site sub t (Exists spec) counts go h = absurd (both_ways false ref
 
 -- a row of networks leaves what the first one that has the address makes of it
 networks_leave : (zones : Answering) (asked : List Question) (site : Site) (sub : Sub) (t : ℕ) (networks : List Term) (counts : Counts)
-    → list_all is_network_term networks ≡ true
+    → list_all is_row_term networks ≡ true
     → Leaves zones asked (tried (judge site sub) t networks counts) (after_networks (first_network networks site.address) (Live counts))
 networks_leave zones asked site sub t [] counts h = λ go. follows_itself zones asked (go counts)
 networks_leave zones asked site sub t (Directive verdict m ∷ networks) counts h =
-    let split = and_parts (is_network m) (list_all is_network_term networks) h in
+    let split = and_parts (is_network m) (list_all is_row_term networks) h in
     leaves_same zones asked (tried (judge site sub) t (Directive verdict m ∷ networks) counts)
     (λ go. unless_matched verdict (rest go) (network_covers m site.address) counts)
     (after_networks (first_network (Directive verdict m ∷ networks) site.address) (Live counts))
@@ -100,13 +100,13 @@ networks_leave zones asked site sub t (Directive verdict m ∷ networks) counts 
         → Leaves zones asked (λ go. unless_matched verdict (rest go) b counts) (after_networks (cond b (Some verdict) (first_network networks site.address)) (Live counts))
     by_test below true = λ go. follows_itself zones asked (Ends (Is verdict) counts)
     by_test below false = below
-networks_leave zones asked site sub t (Redirect spec ∷ networks) counts h = absurd (both_ways false refl h)
-networks_leave zones asked site sub t (Exp spec ∷ networks) counts h = absurd (both_ways false refl h)
-networks_leave zones asked site sub t (Unknown name value ∷ networks) counts h = absurd (both_ways false refl h)
+networks_leave zones asked site sub t (Redirect spec ∷ networks) counts h = networks_leave zones asked site sub (term_after t) networks counts h
+networks_leave zones asked site sub t (Exp spec ∷ networks) counts h = networks_leave zones asked site sub (term_after t) networks counts h
+networks_leave zones asked site sub t (Unknown name value ∷ networks) counts h = networks_leave zones asked site sub (term_after t) networks counts h
 
 -- so a row of networks moves every state
 pub networks_move : (zones : Answering) (asked : List Question) (site : Site) (sub : Sub) (t : ℕ) (networks : List Term) (state : State)
-    → list_all is_network_term networks ≡ true
+    → list_all is_row_term networks ≡ true
     → Moves zones asked (tried (judge site sub) t networks) state (after_networks (first_network networks site.address) state)
 networks_move zones asked site sub t networks (Live c) h = networks_leave zones asked site sub t networks c h
 networks_move zones asked site sub t networks (Decided v c) h = stays (first_network networks site.address)

@@ -1,7 +1,6 @@
 -- The answers that a term gathers before its void is counted (RFC 7208, sections 5.3, 5.4 and 5.7).
-use Rattle.std.specs.Prelude.{◌≡◌, ℕ, Bool, nat_le, ◌||◌, List, [], ◌∷◌, map, filter_map, length, Option, ◌×◌}
-use Rattle.std.specs.List.{concat, list_any}
-use Rattle.master_reader.specs.declared.record.Body.{Body}
+use Rattle.std.specs.Prelude.{◌≡◌, ℕ, Bool, false, nat_le, ◌||◌, List, [], ◌∷◌, map, filter_map, length, Option, Some}
+use Rattle.std.specs.List.{flat_map, list_any}
 use Rattle.zone_answers.specs.declared.answer.QKind.TheVariants as kind
 use Rattle.zone_answers.specs.declared.answer.Answer.{Answer}
 use Rattle.spf_macros.specs.declared.piece.Piece.{Piece}
@@ -54,7 +53,7 @@ gather_exists site t spec counts go =
 -- what is kept of answers: whether one was void, and all bodies
 pub record IsGathered (gathered : Gathered) (found : Found) : Type 0 where
   pub void : gathered.void ≡ (found.0 || list_any is_void found.1)
-  pub bodies : bodies_of gathered.found ≡ concat (map bodies_of found.1)
+  pub bodies : bodies_of gathered.found ≡ flat_map bodies_of found.1
 
 -- RFC 7208, sections 4.6.4, 5.3 and 5.4: counts the void, and then the directive matches where one of the addresses agrees
 abbrev pub judge_hosts : Site → ℕ → Verdict → ℕ → ℕ → Found → Stretch

@@ -31,12 +31,12 @@ network_covers (Mx spec len4 len6) a = false
 network_covers (Ptr spec) a = false
 network_covers (Exists spec) a = false
 
--- a directive with a network
-abbrev pub is_network_term : Term → Bool
-is_network_term (Directive verdict mechanism) = is_network mechanism
-is_network_term (Redirect spec) = false
-is_network_term (Exp spec) = false
-is_network_term (Unknown name value) = false
+-- a term that a row of networks may have: a directive with a network, or a modifier, which is passed over
+abbrev pub is_row_term : Term → Bool
+is_row_term (Directive verdict mechanism) = is_network mechanism
+is_row_term (Redirect spec) = true
+is_row_term (Exp spec) = true
+is_row_term (Unknown name value) = true
 
 -- what a directive's network makes of what is found behind it
 abbrev pub with_first : Term → Address → Option (Option Verdict) → Option (Option Verdict)

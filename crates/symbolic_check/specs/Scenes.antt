@@ -1,14 +1,14 @@
 -- The stretches of a record, by the number of the address (the project's own form of RFC 7208, section 4.6).
-use Rattle.std.specs.Prelude.{ℕ, List, Option, Some}
+use Rattle.std.specs.Prelude.{ℕ, zero, suc, List, Option}
 use Rattle.addr_bits.specs.declared.address.Address.{Address}
 use Rattle.spf_macros.specs.declared.piece.Piece.{Piece}
 use Rattle.spf_grammar.specs.declared.verdict.Verdict.{Verdict}
 use Rattle.spf_grammar.specs.declared.policy.Term.{Term}
 use Rattle.spf_model.specs.declared.outcome.Counts.{Counts}
 use Rattle.spf_model.specs.declared.outcome.Outcome.TheVariants.{Is}
-use Rattle.spf_model.specs.Run.{Run, Ends}
-use Rattle.spf_model.specs.Judging.{Judge, judge, is_pass, with_verdict}
-use Rattle.spf_model.specs.Check.{check, trying, tried, default, redirect_from, unless_matched}
+use Rattle.spf_model.specs.Run.{Run, Ends, then_do}
+use Rattle.spf_model.specs.Judging.{Judge, judge, judged_by, is_pass, with_verdict}
+use Rattle.spf_model.specs.Check.{check, trying, tried, term_after, default, unless_matched}
 use Rattle.symbolic_check.specs.declared.scene.Scene.{Scene}
 use Rattle.symbolic_check.specs.declared.state.Purpose.{Purpose}
 use Rattle.symbolic_check.specs.declared.state.Purpose.TheVariants.{Include, Redirect}
@@ -31,6 +31,11 @@ terms_stretch address scene depth t terms a counts go = tried (judges scene dept
 abbrev pub default_stretch : (ℕ → Address) → Scene → ℕ → Option (ℕ × List Piece) → ℕ → Stretch
 default_stretch address scene depth redirect a counts go = default (site_at scene (address a)) (check scene.limits (address a) depth) counts redirect
 
+-- the number of the term so far behind this one
+abbrev pub number_after : ℕ → ℕ → ℕ
+number_after t zero = t
+number_after t (suc n) = number_after (term_after t) n
+
 -- the record of the scene's domain, which goes on nowhere
 abbrev pub record_stretch : (ℕ → Address) → Scene → ℕ → ℕ → Stretch
 record_stretch address scene depth a counts go = check scene.limits (address a) depth scene.domain.now scene.name.now counts
@@ -39,6 +44,10 @@ record_stretch address scene depth a counts go = check scene.limits (address a) 
 abbrev pub goes_on : Purpose → (Counts → Run) → Verdict → Counts → Run
 goes_on (Include verdict) go found counts = unless_matched verdict go (is_pass found) counts
 goes_on Redirect go found counts = Ends (Is found) counts
+
+-- a record that a term asks for, by its run, and then what the term makes of it
+abbrev pub judged_stretch : (ℕ → Address) → Scene → ℕ → Purpose → (ℕ → Counts → Run) → ℕ → Stretch
+judged_stretch address scene t purpose run a counts go = then_do (run a counts) (judged_by (site_at scene (address a)) t (goes_on purpose go))
 
 -- the record that a term asks for
 abbrev pub target_stretch : (ℕ → Address) → Scene → ℕ → ℕ → List Piece → Purpose → ℕ → Stretch

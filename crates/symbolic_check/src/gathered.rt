@@ -1,15 +1,18 @@
-//! The answers that a term gathers before its void is counted (RFC 7208, sections 5.3 and 5.4).
-ghost use Rattle.std.specs.Prelude.{◌≤◌, option_map};
+//! The answers that a term gathers before its void is counted (RFC 7208, sections 5.3, 5.4 and 5.7).
+ghost use Rattle.std.specs.Prelude.{◌≡◌, ◌++◌, OnOk, Some, map, option_map};
 ghost use Rattle.spf_model.specs.Run.{says};
+ghost use Rattle.spf_model.specs.Judging as judging;
 ghost use Rattle.spf_model.specs.Leads.{TargetFits};
-ghost use Rattle.symbolic_check.specs.Settling.{site_at, SettlesBy};
-ghost use Rattle.symbolic_check.specs.Hosts.{gather_a, gather_mx, IsGathered};
+ghost use Rattle.symbolic_check.specs.Settling.{site_at, Settles, SettlesBy};
+ghost use Rattle.symbolic_check.specs.Hosts.{gather_a, gather_mx, gather_exchanges, gather_exists, IsGathered};
 
 use crate::networks::FamilyWidth;
 use crate::scene::Scene;
+use dns_name::Name;
 use spf_macros::MacroText;
-use spf_model::Halt;
-use zone_answers::{Answer, Questions};
+use spf_model::{Cause, Halt, bodies_of, exchanges_of, is_void};
+use std::alloc::AllocError;
+use zone_answers::{Answer, Bodies, QKind, Questions};
 
 /// What the hosts of a term have.
 #[derive(Drop)]
@@ -20,7 +23,61 @@ pub(crate) struct Gathered {
     pub(crate) found: Answer,
 }
 
+/// Moves the bodies that were found to the end of a list.
+fn move_bodies(answer: Answer, bodies: &mut Bodies) -> Result<(), AllocError>
+    ensures { OnOk result (bodies.new ≡ bodies.old ++ judging.bodies_of answer) }
+{
+    if let Answer::Found(found) = answer {
+        for body in found.into_vec() {
+            bodies.push(body)?;
+        }
+    }
+    Ok(())
+}
+
 impl Scene<'_> {
+    /// What these hosts have. `before` says whether the term had a void answer before.
+    fn gather_hosts<W: FamilyWidth>(
+        &self,
+        term: u32,
+        before: bool,
+        hosts: &[&Name],
+        asked: &mut Questions,
+    ) -> Result<Gathered, Halt>
+        ensures { SettlesBy IsGathered (says self.now.zones.now)
+            (λ a counts go. judging.ask_all (site_at self.now (W.address a)) term counts
+            (map (judging.address_question (W.address a)) (map (λ name. name.now) hosts.now)) (λ answers. go (before, answers))) asked.old asked.new result }
+    {
+        let kind = W::address_kind();
+        let mut void = before;
+        let mut bodies = Bodies::new(self.alloc);
+        for host in hosts {
+            let answer = self.ask::<W>(term, host, kind, asked)?;
+            void |= is_void(&answer);
+            move_bodies(answer, &mut bodies)?;
+        }
+        let found = Answer::Found(bodies);
+        Ok(Gathered { void, found })
+    }
+
+    /// What the exchanges that were found have, of which there may not be more than the limit (RFC 7208, section 4.6.4).
+    fn gather_exchanges<W: FamilyWidth>(
+        &self,
+        term: u32,
+        found: &Answer,
+        asked: &mut Questions,
+    ) -> Result<Gathered, Halt>
+        ensures { SettlesBy IsGathered (says self.now.zones.now)
+            (λ a counts. gather_exchanges (site_at self.now (W.address a)) term found.now counts) asked.old asked.new result }
+    {
+        let exchanges = exchanges_of(self.alloc, bodies_of(found))?;
+        let hosts = exchanges.as_slice();
+        if hosts.len() > self.limits.exchanges as usize {
+            return Err(self.error(Cause::Exchanges, term));
+        }
+        self.gather_hosts::<W>(term, is_void(found), hosts, asked)
+    }
+
     /// What `a` gathers (RFC 7208, section 5.3).
     pub(crate) fn gather_a<W: FamilyWidth>(
         &self,
@@ -32,7 +89,8 @@ impl Scene<'_> {
         ensures { SettlesBy IsGathered (says self.now.zones.now)
             (λ a counts. gather_a (site_at self.now (W.address a)) term (option_map (λ s. s.now) spec.entry) counts) asked.old asked.new result }
     {
-        Err(Halt::Memory)
+        let name = self.host_name::<W>(term, spec)?;
+        self.gather_hosts::<W>(term, false, &[&name], asked)
     }
 
     /// What `mx` gathers (RFC 7208, section 5.4).
@@ -46,6 +104,23 @@ impl Scene<'_> {
         ensures { SettlesBy IsGathered (says self.now.zones.now)
             (λ a counts. gather_mx (site_at self.now (W.address a)) term (option_map (λ s. s.now) spec.entry) counts) asked.old asked.new result }
     {
-        Err(Halt::Memory)
+        let name = self.host_name::<W>(term, spec)?;
+        let found = self.ask::<W>(term, &name, QKind::Mx, asked)?;
+        self.gather_exchanges::<W>(term, &found, asked)
+    }
+
+    /// What `exists` gathers, which asks for IPv4 addresses in both families (RFC 7208, section 5.7).
+    pub(crate) fn gather_exists<W: FamilyWidth>(
+        &self,
+        term: u32,
+        spec: &MacroText,
+        asked: &mut Questions,
+    ) -> Result<Answer, Halt>
+        requires { TargetFits (Some spec.now) }
+        ensures { Settles (says self.now.zones.now)
+            (λ a counts. gather_exists (site_at self.now (W.address a)) term spec.now counts) asked.old asked.new result }
+    {
+        let name = self.host_name::<W>(term, Some(spec))?;
+        self.ask::<W>(term, &name, QKind::A, asked)
     }
 }

@@ -1,22 +1,114 @@
 //! check_host for every address of a family: records, their terms, and the records that these ask for (RFC 7208, sections
 //! 4.6, 5.2 and 6.1).
-ghost use Rattle.std.specs.Prelude.{◌≤◌, IfOk, Some, suc};
+ghost use Rattle.std.specs.Prelude.{◌≡◌, ◌-◌, ◌≤◌, ℕ, true, List, ◌++◌, length, take, drop, IfOk, Some};
+ghost use Rattle.std.specs.List.{list_all};
+ghost use Rattle.zone_answers.specs.declared.answer.Question.{Question};
+ghost use Rattle.spf_grammar.specs.declared.policy.Term.{Term as GivenTerm};
 ghost use Rattle.spf_model.specs.Run.{says};
+ghost use Rattle.spf_model.specs.Check.{check, redirect_from};
 ghost use Rattle.spf_model.specs.Leads.{TargetFits, TermFits, TermsFit};
+ghost use Rattle.symbolic_check.specs.Networks as networks;
 ghost use Rattle.symbolic_check.specs.Walk.{Walks};
-ghost use Rattle.symbolic_check.specs.Scenes.{term_stretch, terms_stretch, record_stretch, target_stretch};
+ghost use Rattle.symbolic_check.specs.Scenes.{number_after, term_stretch, terms_stretch, default_stretch, record_stretch, target_stretch, judged_stretch};
 
-use crate::networks::FamilyWidth;
+use crate::hosts::Lens;
+use crate::networks::{FamilyWidth, first_networks};
 use crate::scene::Scene;
 use crate::state::Purpose;
+use crate::steps;
 use crate::steps::States;
-use spf_grammar::Term;
+use spf_grammar::{Mechanism, Term, Verdict};
 use spf_macros::MacroText;
+use spf_model::{Cause, Halt, Outcome, redirect_of};
 use std::alloc::AllocError;
 use zone_answers::Questions;
 
+/// Whether a row of networks may have this term: a directive with a network, or a modifier, which is passed over.
+fn is_row_term(term: &Term) -> bool
+    ensures { result ≡ networks.is_row_term term.now }
+{
+    match term {
+        Term::Directive(_, Mechanism::Ip4(_) | Mechanism::Ip6(_)) => true,
+        Term::Directive(_, _) => false,
+        _ => true,
+    }
+}
+
 impl Scene<'_> {
+    /// A row of directives with networks (RFC 7208, section 5.6), as one step.
+    fn walk_row<W: FamilyWidth>(
+        &self,
+        row: &[Term],
+        states: States<W>,
+    ) -> Result<States<W>, AllocError>
+        requires { list_all networks.is_row_term row.now ≡ true }
+        ensures { IfOk result (λ new. (depth t : ℕ) (asked : List Question) → Walks W.BITS (says self.now.zones.now)
+            (terms_stretch W.address self.now depth t row.now) states new asked asked) }
+    {
+        if !steps::is_some_live(&states) {
+            return Ok(states);
+        }
+        let found = first_networks(self.alloc, row)?;
+        steps::match_networks(self.alloc, &states, &found)
+    }
+
+    /// The row of networks before another term. Mostly there is none.
+    fn pass_row<W: FamilyWidth>(
+        &self,
+        terms: &[Term],
+        start: usize,
+        end: usize,
+        states: States<W>,
+    ) -> Result<States<W>, AllocError>
+        requires ordered { start ≤ end }
+        requires within { end ≤ length terms.now }
+        requires row { list_all networks.is_row_term (take (end - start) (drop start terms.now)) ≡ true }
+        ensures { IfOk result (λ mid. (depth t : ℕ) (rest : List GivenTerm) (new : _) (asked more : List Question)
+            → Walks W.BITS (says self.now.zones.now) (terms_stretch W.address self.now depth (number_after t (end - start)) rest) mid new asked more
+            → Walks W.BITS (says self.now.zones.now) (terms_stretch W.address self.now depth t (take (end - start) (drop start terms.now) ++ rest)) states new asked more) }
+    {
+        if start == end {
+            return Ok(states);
+        }
+        self.walk_row(&terms[start..end], states)
+    }
+
+    /// The row of networks that ends a record.
+    fn end_row<W: FamilyWidth>(
+        &self,
+        terms: &[Term],
+        start: usize,
+        states: States<W>,
+    ) -> Result<States<W>, AllocError>
+        requires within { start ≤ length terms.now }
+        requires row { list_all networks.is_row_term (drop start terms.now) ≡ true }
+        ensures { IfOk result (λ new. (depth t : ℕ) (asked : List Question) → Walks W.BITS (says self.now.zones.now)
+            (terms_stretch W.address self.now depth t (drop start terms.now)) states new asked asked) }
+    {
+        self.walk_row(&terms[start..], states)
+    }
+
+    /// What a term makes of the record at the domain of the scene `inner`, which it asks for.
+    #[cycle(walk)]
+    fn enter_target<W: FamilyWidth>(
+        &self,
+        depth: u32,
+        term: u32,
+        inner: &Scene<'_>,
+        purpose: Purpose,
+        states: States<W>,
+        asked: &mut Questions,
+    ) -> Result<States<W>, AllocError>
+        ensures { IfOk result (λ new. Walks W.BITS (says inner.now.zones.now)
+            (judged_stretch W.address self.now term purpose (λ a counts. check inner.now.limits (W.address a) depth inner.now.domain.now inner.now.name.now counts)) states new asked.old asked.new) }
+    {
+        let entered = steps::enter(self.alloc, &states)?;
+        let found = inner.walk_record(depth, entered, asked)?;
+        steps::use_target(self.alloc, &states, &found, &self.place(term), purpose)
+    }
+
     /// What a term makes of the record that it asks for. Records below it are nested so deep.
+    #[cycle(walk)]
     pub(crate) fn walk_target<W: FamilyWidth>(
         &self,
         depth: u32,
@@ -30,10 +122,28 @@ impl Scene<'_> {
         ensures { IfOk result (λ new. Walks W.BITS (says self.now.zones.now)
             (target_stretch W.address self.now depth term spec.now purpose) states new asked.old asked.new) }
     {
-        Err(AllocError)
+        let counted = steps::count_lookups(self.alloc, &states, self.limits, &self.place(term))?;
+        if !steps::is_some_live(&counted) {
+            return Ok(counted);
+        }
+        match self.target::<W>(term, spec) {
+            Ok((domain, name)) => {
+                let inner = Scene {
+                    alloc: self.alloc,
+                    zones: self.zones,
+                    limits: self.limits,
+                    domain: domain.as_slice(),
+                    name: &name,
+                };
+                self.enter_target(depth, term, &inner, purpose, counted, asked)
+            }
+            Err(Halt::Ended(outcome)) => steps::fail(self.alloc, &counted, &outcome),
+            Err(Halt::Memory) => Err(AllocError),
+        }
     }
 
     /// A term. Records below it are nested so deep.
+    #[cycle(walk)]
     pub(crate) fn walk_term<W: FamilyWidth>(
         &self,
         depth: u32,
@@ -46,10 +156,39 @@ impl Scene<'_> {
         ensures { IfOk result (λ new. Walks W.BITS (says self.now.zones.now)
             (term_stretch W.address self.now depth number term.now) states new asked.old asked.new) }
     {
-        Err(AllocError)
+        let Term::Directive(verdict, mechanism) = term else {
+            return self.walk_row(std::slice::from_ref(term), states);
+        };
+        match mechanism {
+            Mechanism::All => steps::match_all(self.alloc, &states, *verdict, true),
+            Mechanism::Ip4(_) | Mechanism::Ip6(_) => {
+                self.walk_row(std::slice::from_ref(term), states)
+            }
+            Mechanism::Include(spec) => {
+                let purpose = Purpose::Include(*verdict);
+                self.walk_target(depth, number, spec, purpose, states, asked)
+            }
+            Mechanism::A(spec, len4, len6) => {
+                let lens = Lens {
+                    len4: *len4,
+                    len6: *len6,
+                };
+                self.walk_a(number, *verdict, spec.as_ref(), lens, states, asked)
+            }
+            Mechanism::Mx(spec, len4, len6) => {
+                let lens = Lens {
+                    len4: *len4,
+                    len6: *len6,
+                };
+                self.walk_mx(number, *verdict, spec.as_ref(), lens, states, asked)
+            }
+            Mechanism::Exists(spec) => self.walk_exists(number, *verdict, spec, states, asked),
+            Mechanism::Ptr(_) => self.walk_ptr(number, states, asked),
+        }
     }
 
     /// The terms of the record. Records below them are nested so deep.
+    #[cycle(walk)]
     pub(crate) fn walk_terms<W: FamilyWidth>(
         &self,
         depth: u32,
@@ -61,10 +200,43 @@ impl Scene<'_> {
         ensures { IfOk result (λ new. Walks W.BITS (says self.now.zones.now)
             (terms_stretch W.address self.now depth 1 terms.now) states new asked.old asked.new) }
     {
-        Err(AllocError)
+        let mut walked = states;
+        let mut start = 0;
+        let mut number = 1u32;
+        for index in 0..terms.len() {
+            if !is_row_term(&terms[index]) {
+                let passed = self.pass_row(terms, start, index, walked)?;
+                walked = self.walk_term(depth, number, &terms[index], passed, asked)?;
+                start = index + 1;
+            }
+            number = number.saturating_add(1);
+        }
+        self.end_row(terms, start, walked)
+    }
+
+    /// What comes where no directive of the record matches (RFC 7208, sections 4.7 and 6.1).
+    #[cycle(walk)]
+    fn walk_default<W: FamilyWidth>(
+        &self,
+        depth: u32,
+        terms: &[Term],
+        states: States<W>,
+        asked: &mut Questions,
+    ) -> Result<States<W>, AllocError>
+        requires { TermsFit terms.now }
+        ensures { IfOk result (λ new. Walks W.BITS (says self.now.zones.now)
+            (default_stretch W.address self.now depth (redirect_from 1 terms.now)) states new asked.old asked.new) }
+    {
+        match redirect_of(terms) {
+            Some((term, spec)) => {
+                self.walk_target(depth, term, spec, Purpose::Redirect, states, asked)
+            }
+            None => steps::match_all(self.alloc, &states, Verdict::Neutral, true),
+        }
     }
 
     /// The record at the domain. Records are nested so deep, this one counted.
+    #[cycle(walk)]
     pub(crate) fn walk_record<W: FamilyWidth>(
         &self,
         depth: u32,
@@ -74,6 +246,20 @@ impl Scene<'_> {
         ensures { IfOk result (λ new. Walks W.BITS (says self.now.zones.now)
             (record_stretch W.address self.now depth) states new asked.old asked.new) }
     {
-        Err(AllocError)
+        if depth == 0 {
+            let outcome = Outcome::Perm(Cause::Lookups, self.place(0));
+            return steps::fail(self.alloc, &states, &outcome);
+        }
+        if !steps::is_some_live(&states) {
+            return Ok(states);
+        }
+        match self.find_record(asked) {
+            Ok(terms) => {
+                let tried = self.walk_terms(depth - 1, terms.as_slice(), states, asked)?;
+                self.walk_default(depth - 1, terms.as_slice(), tried, asked)
+            }
+            Err(Halt::Ended(outcome)) => steps::fail(self.alloc, &states, &outcome),
+            Err(Halt::Memory) => Err(AllocError),
+        }
     }
 }

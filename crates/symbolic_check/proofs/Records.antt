@@ -1,0 +1,219 @@
+-- A record of a walk: what it asks for, its terms, and what comes where none matches.
+use Rattle.std.proofs.Common.{◌≡◌, ℕ, zero, suc, ◌-◌, ◌<◌, true, List, [], ◌∷◌, length, get_or, refl, sym, subst, arith, Option, Some, None, Result, Ok, Err, IfOk}
+use Rattle.addr_bits.specs.Prefix.{Cidr}
+use Rattle.addr_bits.specs.declared.address.Address.{Address}
+use Rattle.zone_answers.specs.declared.answer.Question.{Question}
+use Rattle.spf_macros.specs.declared.piece.Piece.{Piece}
+use Rattle.spf_grammar.specs.declared.verdict.Verdict.{Verdict}
+use Rattle.spf_grammar.specs.declared.verdict.Verdict.TheVariants.{Neutral}
+use Rattle.spf_grammar.specs.declared.policy.Mechanism.{Mechanism}
+use Rattle.spf_grammar.specs.declared.policy.Mechanism.TheVariants.{All, Include as IncludeOf}
+use Rattle.spf_grammar.specs.declared.policy.Term.{Term}
+use Rattle.spf_grammar.specs.declared.policy.Term.TheVariants.{Directive}
+use Rattle.spf_model.specs.declared.outcome.Cause.TheVariants as cause
+use Rattle.spf_model.specs.declared.outcome.Counts.{Counts}
+use Rattle.spf_model.specs.declared.outcome.Place.{Place}
+use Rattle.spf_model.specs.declared.outcome.Halt.TheVariants.{Ended}
+use Rattle.spf_model.specs.declared.outcome.Outcome.{Outcome}
+use Rattle.spf_model.specs.declared.outcome.Outcome.TheVariants.{Perm}
+use Rattle.spf_model.specs.Run.{Run, Answering, then_do}
+use Rattle.spf_model.specs.Judging.{Labels, judged_by, counted}
+use Rattle.spf_model.specs.Check.{check, with_record, evaluated, redirect_from}
+use Rattle.spf_model.specs.Leads.{TargetFits, TermFits, TermsFit}
+use Rattle.symbolic_check.specs.declared.scene.Scene.{Scene}
+use Rattle.symbolic_check.specs.declared.state.State.{State}
+use Rattle.symbolic_check.specs.declared.state.Purpose.{Purpose}
+use Rattle.symbolic_check.specs.declared.state.Purpose.TheVariants.{Include, Redirect}
+use Rattle.symbolic_check.specs.Hosts.{naming_target}
+use Rattle.symbolic_check.specs.Settling.{site_at, Settles}
+use Rattle.symbolic_check.specs.Steps.{entered, after_lookup, after_match, after_failure, after_target}
+use Rattle.symbolic_check.specs.Scenes.{goes_on, term_stretch, terms_stretch, default_stretch, record_stretch, target_stretch, judged_stretch}
+use Rattle.symbolic_check.specs.Walk.{Stretch, Walks, SomeLive, NoneLive, StepsAt, StepsWith}
+use Rattle.symbolic_check.proofs.Walking.{walks_twice, walks_by_steps}
+use Rattle.symbolic_check.proofs.Stepping.{lookup_moves, match_moves, failure_moves}
+use Rattle.symbolic_check.proofs.Settling.{walks_passed, walks_stopped, walks_idle}
+use Rattle.symbolic_check.proofs.Targets.{judged_walk}
+
+-- the states of a walk, or none for want of memory
+abbrev pub Walked : (E : Type 0) (bits : ℕ) → Answering → (ℕ → Stretch) → List (Cidr × State) → List Question → List Question → Result (List (Cidr × State)) E → Type 0
+Walked E bits zones stretch old asked more result = IfOk result (λ new. Walks bits zones stretch old new asked more)
+
+-- a walk, and then another
+then_walked : {E : Type 0} (bits : ℕ) (zones : Answering) (first next : ℕ → Stretch) (old mid : List (Cidr × State)) (asked between more : List Question) (result : Result (List (Cidr × State)) E)
+    → Walks bits zones first old mid asked between → Walked E bits zones next mid between more result
+    → Walked E bits zones (λ a counts go. first a counts (λ b. next a b go)) old asked more result
+then_walked bits zones first next old mid asked between more (Ok new) f g = walks_twice bits zones first next old mid new asked between more f g
+then_walked bits zones first next old mid asked between more (Err e) f g = g
+
+-- a step is a walk
+stepped : {E : Type 0} (bits : ℕ) (zones : Answering) (stretch : ℕ → Stretch) (step : ℕ → State → State) (old : List (Cidr × State)) (asked : List Question) (result : Result (List (Cidr × State)) E)
+    → ((new : List (Cidr × State)) → StepsAt bits step old new → Walks bits zones stretch old new asked asked)
+    → IfOk result (λ new. StepsAt bits step old new) → Walked E bits zones stretch old asked asked result
+stepped bits zones stretch step old asked (Ok new) walks h = walks new h
+stepped bits zones stretch step old asked (Err e) walks h = h
+
+-- ---- a term's record
+
+pub target_used : {E : Type 0} (bits : ℕ) (zones : Answering) (address : ℕ → Address) (scene : Scene) (t : ℕ) (purpose : Purpose) (run : ℕ → Counts → Run) (old within inner : List (Cidr × State)) (asked more : List Question)
+    (place : Place) (result : Result (List (Cidr × State)) E) → place ≡ record { name = scene.name.now; term = t }
+    → StepsAt bits (λ a. entered) old within → Walks bits zones (λ a counts go. run a counts) within inner asked more
+    → IfOk result (λ new. StepsWith bits (after_target place purpose) inner old new)
+    → Walked E bits zones (judged_stretch address scene t purpose run) old asked more result
+target_used bits zones address scene t purpose run old within inner asked more place (Err e) at_term enters walks uses = uses
+target_used bits zones address scene t purpose run old within inner asked more place (Ok new) at_term enters walks uses =
+    judged_walk bits zones address scene t purpose run old within inner new asked more enters walks
+    (subst (λ (p : Place). StepsWith bits (after_target p purpose) inner old new) at_term uses)
+
+-- the lookup of a term is counted
+lookup_walk : (bits : ℕ) (zones : Answering) (address : ℕ → Address) (scene : Scene) (t : ℕ) (place : Place) (old new : List (Cidr × State)) (asked : List Question)
+    → place ≡ record { name = scene.name.now; term = t } → StepsAt bits (λ a. after_lookup scene.limits place) old new
+    → Walks bits zones (λ a. counted (site_at scene (address a)) t) old new asked asked
+lookup_walk bits zones address scene t place old new asked at_term steps =
+    walks_by_steps bits zones (λ a. counted (site_at scene (address a)) t) (λ a. after_lookup scene.limits (record { name = scene.name.now; term = t })) old new asked
+    (λ a s. lookup_moves zones asked (site_at scene (address a)) t s)
+    (subst (λ (p : Place). StepsAt bits (λ a. after_lookup scene.limits p) old new) at_term steps)
+
+-- what a term makes of its target, once its lookup is counted
+abbrev on_target : (ℕ → Address) → Scene → ℕ → ℕ → Purpose → ℕ → Counts → List ℕ × Labels → (Counts → Run) → Run
+on_target address scene depth t purpose a counts found go =
+    then_do (check scene.limits (address a) depth found.0 found.1 counts) (judged_by (site_at scene (address a)) t (goes_on purpose go))
+
+abbrev name_part : (ℕ → Address) → Scene → ℕ → List Piece → ℕ → Counts → (List ℕ × Labels → Run) → Run
+name_part address scene t spec a counts = naming_target (site_at scene (address a)) t spec counts
+
+abbrev named_stretch : (ℕ → Address) → Scene → ℕ → ℕ → List Piece → Purpose → ℕ → Stretch
+named_stretch address scene depth t spec purpose a counts go =
+    name_part address scene t spec a counts (λ found. on_target address scene depth t purpose a counts found go)
+
+pub target_idle : (bits : ℕ) (zones : Answering) (address : ℕ → Address) (scene : Scene) (depth t : ℕ) (spec : List Piece) (purpose : Purpose) (place : Place) (old mid : List (Cidr × State)) (asked : List Question)
+    → place ≡ record { name = scene.name.now; term = t } → StepsAt bits (λ a. after_lookup scene.limits place) old mid → NoneLive bits mid
+    → Walks bits zones (target_stretch address scene depth t spec purpose) old mid asked asked
+target_idle bits zones address scene depth t spec purpose place old mid asked at_term counts none =
+    walks_twice bits zones (λ a. counted (site_at scene (address a)) t) (named_stretch address scene depth t spec purpose) old mid mid asked asked asked
+    (lookup_walk bits zones address scene t place old mid asked at_term counts) (walks_idle bits zones (named_stretch address scene depth t spec purpose) mid asked none)
+
+pub target_stopped : {E : Type 0} (bits : ℕ) (zones : Answering) (address : ℕ → Address) (scene : Scene) (depth t : ℕ) (spec : List Piece) (purpose : Purpose) (place : Place) (outcome : Outcome) (old mid : List (Cidr × State)) (asked : List Question) (result : Result (List (Cidr × State)) E)
+    → place ≡ record { name = scene.name.now; term = t } → StepsAt bits (λ a. after_lookup scene.limits place) old mid → SomeLive bits mid
+    → Settles zones (name_part address scene t spec) asked asked (Err (Ended outcome))
+    → IfOk result (λ new. StepsAt bits (λ a. after_failure outcome) mid new)
+    → Walked E bits zones (target_stretch address scene depth t spec purpose) old asked asked result
+target_stopped bits zones address scene depth t spec purpose place outcome old mid asked result at_term counts live settles fails =
+    then_walked bits zones (λ a. counted (site_at scene (address a)) t) (named_stretch address scene depth t spec purpose) old mid asked asked asked result
+    (lookup_walk bits zones address scene t place old mid asked at_term counts)
+    (stepped bits zones (named_stretch address scene depth t spec purpose) (λ a. after_failure outcome) mid asked result
+    (λ new steps. walks_stopped bits zones (name_part address scene t spec) outcome (on_target address scene depth t purpose) mid new asked asked settles.0 settles.1 live steps)
+    fails)
+
+pub target_entered : {E : Type 0} (bits : ℕ) (zones : Answering) (address : ℕ → Address) (scene : Scene) (depth t : ℕ) (spec : List Piece) (purpose : Purpose) (place : Place) (text domain : List ℕ) (name : Labels) (old mid : List (Cidr × State)) (asked more : List Question) (result : Result (List (Cidr × State)) E)
+    → place ≡ record { name = scene.name.now; term = t } → StepsAt bits (λ a. after_lookup scene.limits place) old mid → SomeLive bits mid
+    → Settles {A = List ℕ × Labels} zones (name_part address scene t spec) asked asked (Ok (text, name)) → domain ≡ text
+    → Walked E bits zones (judged_stretch address scene t purpose (λ a counts. check scene.limits (address a) depth domain name counts)) mid asked more result
+    → Walked E bits zones (target_stretch address scene depth t spec purpose) old asked more result
+target_entered bits zones address scene depth t spec purpose place text domain name old mid asked more (Err e) at_term counts live settles same walks = walks
+target_entered bits zones address scene depth t spec purpose place text domain name old mid asked more (Ok new) at_term counts live settles same walks =
+    walks_twice bits zones (λ a. counted (site_at scene (address a)) t) (named_stretch address scene depth t spec purpose) old mid new asked asked more
+    (lookup_walk bits zones address scene t place old mid asked at_term counts)
+    (walks_passed bits zones (name_part address scene t spec) (text, name) (on_target address scene depth t purpose) mid new asked asked more settles.0 settles.1 live
+    (subst (λ (d : List ℕ). Walks bits zones (judged_stretch address scene t purpose (λ a counts. check scene.limits (address a) depth d name counts)) mid new asked more) same walks))
+
+-- ---- one term
+
+pub row_walked : {E : Type 0} (bits : ℕ) (zones : Answering) (address : ℕ → Address) (scene : Scene) (depth t : ℕ) (term : Term) (row : List Term) (old : List (Cidr × State)) (asked : List Question) (result : Result (List (Cidr × State)) E)
+    → row ≡ term ∷ []
+    → IfOk result (λ new. (depth t : ℕ) (asked : List Question) → Walks bits zones (terms_stretch address scene depth t row) old new asked asked)
+    → Walked E bits zones (term_stretch address scene depth t term) old asked asked result
+row_walked bits zones address scene depth t term row old asked (Err e) one h = h
+row_walked bits zones address scene depth t term row old asked (Ok new) one h =
+    subst (λ (terms : List Term). Walks bits zones (terms_stretch address scene depth t terms) old new asked asked) one (h depth t asked)
+
+pub all_walked : {E : Type 0} (bits : ℕ) (zones : Answering) (address : ℕ → Address) (scene : Scene) (depth t : ℕ) (term : Term) (verdict : Verdict) (mechanism : Mechanism) (old : List (Cidr × State)) (asked : List Question) (result : Result (List (Cidr × State)) E)
+    → term ≡ Directive verdict mechanism → mechanism ≡ All
+    → IfOk result (λ new. StepsAt bits (λ a. after_match verdict true) old new)
+    → Walked E bits zones (term_stretch address scene depth t term) old asked asked result
+all_walked {E} bits zones address scene depth t term verdict mechanism old asked result is of h =
+    subst (λ (x : Term). Walked E bits zones (term_stretch address scene depth t x) old asked asked result) (sym is)
+    (subst (λ (m : Mechanism). Walked E bits zones (term_stretch address scene depth t (Directive verdict m)) old asked asked result) (sym of)
+    (stepped bits zones (term_stretch address scene depth t (Directive verdict All)) (λ a. after_match verdict true) old asked result
+    (λ new steps. walks_by_steps bits zones (term_stretch address scene depth t (Directive verdict All)) (λ a. after_match verdict true) old new asked
+    (λ a s. match_moves zones asked verdict true s) steps) h))
+
+pub include_walked : {E : Type 0} (bits : ℕ) (zones : Answering) (address : ℕ → Address) (scene : Scene) (depth t : ℕ) (term : Term) (verdict : Verdict) (mechanism : Mechanism) (spec : List Piece) (old : List (Cidr × State)) (asked more : List Question) (result : Result (List (Cidr × State)) E)
+    → term ≡ Directive verdict mechanism → mechanism ≡ IncludeOf spec
+    → Walked E bits zones (target_stretch address scene depth t spec (Include verdict)) old asked more result
+    → Walked E bits zones (term_stretch address scene depth t term) old asked more result
+include_walked {E} bits zones address scene depth t term verdict mechanism spec old asked more result is of h =
+    subst (λ (x : Term). Walked E bits zones (term_stretch address scene depth t x) old asked more result) (sym is)
+    (subst (λ (m : Mechanism). Walked E bits zones (term_stretch address scene depth t (Directive verdict m)) old asked more result) (sym of) h)
+
+pub include_fits : (term : Term) (verdict : Verdict) (mechanism : Mechanism) (spec : List Piece) → term ≡ Directive verdict mechanism → mechanism ≡ IncludeOf spec
+    → TermFits term → TargetFits (Some spec)
+include_fits term verdict mechanism spec is of fit =
+    subst (λ (m : Mechanism). TermFits (Directive verdict m)) of (subst (λ (x : Term). TermFits x) is fit)
+
+pub fit_at : (terms : List Term) (i : ℕ) (term : Term) → i < length terms → TermsFit terms → term ≡ get_or terms i term → TermFits term
+fit_at terms i term below fit e = subst (λ (x : Term). TermFits x) (sym e) (there terms i below fit)
+  where
+    there : (terms : List Term) (i : ℕ) → i < length terms → TermsFit terms → TermFits (get_or terms i term)
+    there [] i below fit = absurd (omega (arith, below))
+    there (first ∷ terms) zero below fit = fit.0
+    there (first ∷ terms) (suc i) below fit = there terms i (omega (arith, below)) fit.1
+
+-- ---- a record
+
+pub redirect_walked : {E : Type 0} (bits : ℕ) (zones : Answering) (address : ℕ → Address) (scene : Scene) (depth t : ℕ) (spec : List Piece) (terms : List Term) (old : List (Cidr × State)) (asked more : List Question) (result : Result (List (Cidr × State)) E)
+    → Some (t, spec) ≡ redirect_from 1 terms → Walked E bits zones (target_stretch address scene depth t spec Redirect) old asked more result
+    → Walked E bits zones (default_stretch address scene depth (redirect_from 1 terms)) old asked more result
+redirect_walked {E} bits zones address scene depth t spec terms old asked more result e h =
+    subst (λ (r : Option (ℕ × List Piece)). Walked E bits zones (default_stretch address scene depth r) old asked more result) e h
+
+pub neutral_walked : {E : Type 0} (bits : ℕ) (zones : Answering) (address : ℕ → Address) (scene : Scene) (depth : ℕ) (terms : List Term) (old : List (Cidr × State)) (asked : List Question) (result : Result (List (Cidr × State)) E)
+    → None ≡ redirect_from 1 terms → IfOk result (λ new. StepsAt bits (λ a. after_match Neutral true) old new)
+    → Walked E bits zones (default_stretch address scene depth (redirect_from 1 terms)) old asked asked result
+neutral_walked {E} bits zones address scene depth terms old asked result e h =
+    subst (λ (r : Option (ℕ × List Piece)). Walked E bits zones (default_stretch address scene depth r) old asked asked result) e
+    (stepped bits zones (default_stretch address scene depth None) (λ a. after_match Neutral true) old asked result
+    (λ new steps. walks_by_steps bits zones (default_stretch address scene depth None) (λ a. after_match Neutral true) old new asked
+    (λ a s. match_moves zones asked Neutral true s) steps) h)
+
+pub too_deep : {E : Type 0} (bits : ℕ) (zones : Answering) (address : ℕ → Address) (scene : Scene) (depth : ℕ) (place : Place) (old : List (Cidr × State)) (asked : List Question) (result : Result (List (Cidr × State)) E)
+    → depth ≡ 0 → place ≡ record { name = scene.name.now; term = 0 } → IfOk result (λ new. StepsAt bits (λ a. after_failure (Perm cause.Lookups place)) old new)
+    → Walked E bits zones (record_stretch address scene depth) old asked asked result
+too_deep {E} bits zones address scene depth place old asked result none at_term h =
+    subst (λ (d : ℕ). Walked E bits zones (record_stretch address scene d) old asked asked result) (sym none)
+    (stepped bits zones (record_stretch address scene 0) (λ a. after_failure (Perm cause.Lookups (record { name = scene.name.now; term = 0 }))) old asked result
+    (λ new steps. walks_by_steps bits zones (record_stretch address scene 0) (λ a. after_failure (Perm cause.Lookups (record { name = scene.name.now; term = 0 }))) old new asked
+    (λ a s. failure_moves zones asked (Perm cause.Lookups (record { name = scene.name.now; term = 0 })) s tt) steps)
+    (subst (λ (p : Place). IfOk result (λ new. StepsAt bits (λ a. after_failure (Perm cause.Lookups p)) old new)) at_term h))
+
+-- what a record comes to once it is found
+abbrev on_record : (ℕ → Address) → Scene → ℕ → ℕ → Counts → List Term → (Counts → Run) → Run
+on_record address scene depth a counts terms go = evaluated (site_at scene (address a)) (check scene.limits (address a) depth) terms counts
+
+abbrev find_part : Scene → ℕ → Counts → (List Term → Run) → Run
+find_part scene a counts = with_record scene.name.now counts
+
+below_depth : (depth : ℕ) → (depth ≡ 0 → ⊥) → suc (depth - 1) ≡ depth
+below_depth zero h = absurd (h refl)
+below_depth (suc depth) h = omega arith
+
+pub record_stopped : {E : Type 0} (bits : ℕ) (zones : Answering) (address : ℕ → Address) (scene : Scene) (depth : ℕ) (outcome : Outcome) (old : List (Cidr × State)) (asked more : List Question) (result : Result (List (Cidr × State)) E)
+    → (depth ≡ 0 → ⊥) → SomeLive bits old → Settles zones (find_part scene) asked more (Err (Ended outcome))
+    → IfOk result (λ new. StepsAt bits (λ a. after_failure outcome) old new)
+    → Walked E bits zones (record_stretch address scene depth) old asked more result
+record_stopped bits zones address scene depth outcome old asked more (Err e) deep live settles h = h
+record_stopped bits zones address scene depth outcome old asked more (Ok new) deep live settles h =
+    subst (λ (d : ℕ). Walks bits zones (record_stretch address scene d) old new asked more) (below_depth depth deep)
+    (walks_stopped bits zones (find_part scene) outcome (on_record address scene (depth - 1)) old new asked more settles.0 settles.1 live h)
+
+pub record_walked : {E : Type 0} (bits : ℕ) (zones : Answering) (address : ℕ → Address) (scene : Scene) (depth : ℕ) (terms first next : List Term) (old mid : List (Cidr × State)) (asked found between more : List Question) (result : Result (List (Cidr × State)) E)
+    → (depth ≡ 0 → ⊥) → SomeLive bits old → Settles zones (find_part scene) asked found (Ok terms) → first ≡ terms → next ≡ terms
+    → Walks bits zones (terms_stretch address scene (depth - 1) 1 first) old mid found between
+    → Walked E bits zones (default_stretch address scene (depth - 1) (redirect_from 1 next)) mid between more result
+    → Walked E bits zones (record_stretch address scene depth) old asked more result
+record_walked bits zones address scene depth terms first next old mid asked found between more (Err e) deep live settles same alike tried default = default
+record_walked bits zones address scene depth terms first next old mid asked found between more (Ok new) deep live settles same alike tried default =
+    subst (λ (d : ℕ). Walks bits zones (record_stretch address scene d) old new asked more) (below_depth depth deep)
+    (walks_passed bits zones (find_part scene) terms (on_record address scene (depth - 1)) old new asked found more settles.0 settles.1 live
+    (walks_twice bits zones (terms_stretch address scene (depth - 1) 1 terms) (default_stretch address scene (depth - 1) (redirect_from 1 terms)) old mid new found between more
+    (subst (λ (xs : List Term). Walks bits zones (terms_stretch address scene (depth - 1) 1 xs) old mid found between) same tried)
+    (subst (λ (xs : List Term). Walks bits zones (default_stretch address scene (depth - 1) (redirect_from 1 xs)) mid new between more) alike default)))

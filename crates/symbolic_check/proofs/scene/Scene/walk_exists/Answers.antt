@@ -1,0 +1,19 @@
+use Rattle.spf_model.specs.Run.{says}
+use Rattle.symbolic_check.proofs.Combining.{if_ok_by}
+use Rattle.symbolic_check.proofs.Gathering.{exists_part}
+use Rattle.symbolic_check.proofs.Matching.{exists_walk}
+use Rattle.symbolic_check.proofs.Settling.{walks_idle}
+use Rattle.symbolic_check.proofs.scene.Scene.walk_exists.Goals as goal
+
+pub returns-then-not-is_some_live : goal.returns-then-not-is_some_live
+returns-then-not-is_some_live g c = λ depth.
+    exists_walk g.W.Width.BITS (says c.args.self.now.zones.now) c.args.self.now g.W.FamilyWidth.address depth c.args.term c.args.verdict c.args.spec.now
+    c.args.states c.in_ok-counted.counted c.in_ok-counted.counted c.args.asked.now c.args.asked.now (c.in_ok-counted.ensures c.args.asked.now)
+    (walks_idle g.W.Width.BITS (says c.args.self.now.zones.now) _ c.in_ok-counted.counted c.args.asked.now c.if-not-is_some_live.ensures)
+
+pub returns : goal.returns
+returns g c = if_ok_by _ c.match_found.result c.match_found.ensures
+    (λ new walks depth.
+    exists_walk g.W.Width.BITS (says c.args.self.now.zones.now) c.args.self.now g.W.FamilyWidth.address depth c.args.term c.args.verdict c.args.spec.now
+    c.args.states c.in_ok-counted.counted new c.args.asked.now c.gather_exists-found.new.asked (c.in_ok-counted.ensures c.args.asked.now)
+    (walks (exists_part c.args.self.now g.W.FamilyWidth.address c.args.term c.args.spec.now) c.args.asked.now c.gather_exists-found.new.asked c.gather_exists-found.ensures c.if-not-is_some_live.ensures))
