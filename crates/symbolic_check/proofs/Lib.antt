@@ -10,7 +10,6 @@ pub mod Matching
 pub mod Records
 pub mod Rests
 pub mod Rows
-pub mod Seeking
 pub mod Settling
 pub mod Stepping
 pub mod Targets
