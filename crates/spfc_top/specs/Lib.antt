@@ -5,5 +5,4 @@ pub mod Ended
 pub mod Ends
 pub mod Findings
 pub mod Lines
-pub mod Published
 pub mod Zones
