@@ -1,5 +1,5 @@
 -- From an evaluation of every address to its verdicts, or to the least address that is refused.
-use Rattle.std.proofs.Common.{◌≡◌, ◌<◌, ◌^◌, ℕ, true, false, List, Option, Some, None, IsSomeAnd, Result, Ok, Err, IfOk, IfErr, inl, refl, sym, ap, ◌∙◌, subst, true≢false, arith}
+use Rattle.std.proofs.Common.{◌≡◌, ◌<◌, ◌^◌, ℕ, true, List, Option, Some, None, IsSomeAnd, inl, sym, subst, true≢false}
 use Rattle.addr_bits.specs.Prefix.{Cidr}
 use Rattle.addr_bits.specs.Address.{IsAddress}
 use Rattle.addr_bits.specs.declared.address.Address.{Address}
@@ -16,13 +16,13 @@ use Rattle.zone_answers.specs.Zone.{Zone}
 use Rattle.spf_model.specs.Run.{says}
 use Rattle.symbolic_check.specs.Evaluation.{IsEvaluation}
 use Rattle.verdict_map.specs.declared.fault.VerdictFault.{VerdictFault}
-use Rattle.verdict_map.specs.Verdicts.{has_verdict, IsVerdictOf, HasVerdict, HaveVerdicts, IsLeastWithout, IsRefused, IsFault}
+use Rattle.verdict_map.specs.Verdicts.{has_verdict, IsVerdictOf, HasVerdict, HaveVerdicts, IsRefused, IsFault}
 use Rattle.fewest_terms.specs.Leaves.{or_neutral, verdict_at as trie_verdict}
 use Rattle.spfc_top.specs.declared.stop.Stop.{Stop}
 use Rattle.spfc_top.specs.declared.stop.Stop.TheVariants as stop
 use Rattle.spfc_top.specs.Compiled.{verdict_at}
 use Rattle.spfc_top.specs.Findings.{StandsBefore, IsLeastRefused}
-use Rattle.spfc_top.specs.Answers.{IsFaultStop, IsRefusedStop, KeepVerdicts}
+use Rattle.spfc_top.specs.Answers.{IsFaultStop, IsRefusedStop}
 
 -- ---- what stands at one address
 here : {A : Type 0} (found : Option A) (a : A) (P : A → Type 0) → found ≡ Some a → IsSomeAnd found P → P a

@@ -1,6 +1,5 @@
 -- One outcome for each address, and verdicts that no list can change.
-use Rattle.std.proofs.Common.{◌≡◌, ◌<◌, ◌^◌, ℕ, Bool, true, false, List, Some, Option, refl, sym, ap, ◌∙◌, subst, true≢false, arith}
-use Rattle.addr_bits.specs.Address.{IsAddress}
+use Rattle.std.proofs.Common.{◌≡◌, ◌<◌, ℕ, false, List, Some, Option, sym, ap, ◌∙◌, subst, true≢false, arith}
 use Rattle.addr_bits.specs.declared.address.Address.{Address}
 use Rattle.addr_bits.specs.declared.address.Address.TheVariants.{V4, V6}
 use Rattle.addr_bits.proofs.Texts.{one_address}

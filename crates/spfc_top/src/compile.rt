@@ -41,12 +41,7 @@ pub(crate) fn compile<F: Files>(
 }
 
 // The fragment for the domain over these zones.
-fn write_policy(
-    alloc: Global,
-    zones: &Zones,
-    form: Form<'_>,
-    limits: Limits,
-) -> Result<Bytes, Stop>
+fn write_policy(alloc: Global, zones: &Zones, form: Form<'_>, limits: Limits) -> Result<Bytes, Stop>
     requires named { IsOk (name_of_text form.domain.now) }
     requires modest { AreModest limits }
     ensures done { IfOk result (λ bytes. PolicyDue (wanted_by form.entry) limits zones.now (Gives bytes)) }

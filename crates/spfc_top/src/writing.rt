@@ -1,6 +1,5 @@
 //! Writing a shortest list of some verdicts as the fewest records that fit.
-ghost use Rattle.std.specs.Prelude.{◌≡◌, ℕ, List, IfOk, IfErr};
-ghost use Rattle.zone_answers.specs.Names.{other_text_of};
+ghost use Rattle.std.specs.Prelude.{IfOk, IfErr};
 ghost use Rattle.fewest_terms.specs.Leaves.{verdict_at as trie_verdict};
 ghost use Rattle.spfc_top.specs.Due.{Gives};
 ghost use Rattle.spfc_top.specs.Compiled.{VerdictsDue, ListDue, IsChosenCut};
