@@ -1,5 +1,5 @@
 -- The words of an outcome on the command line (the project's own choice, after RFC 7208, section 2.6).
-use Rattle.std.specs.Prelude.{ℕ, List, ◌∷◌, ◌++◌, decimal, codes}
+use Rattle.std.specs.Prelude.{ℕ, List, [], ◌∷◌, ◌++◌, decimal, codes}
 use Rattle.dns_name.specs.Printed.{printed_name}
 use Rattle.spf_grammar.specs.declared.verdict.Verdict.{Verdict}
 use Rattle.spf_grammar.specs.declared.verdict.Verdict.TheVariants.{Pass, Fail, SoftFail, Neutral}
@@ -36,6 +36,14 @@ cause_word cause.Alias = codes "alias"
 -- project's own choice: a cause and a place, which is the printed name and the number of the term
 abbrev pub cause_words : Cause → Place → List ℕ
 cause_words cause place = cause_word cause ++ 32 ∷ (printed_name place.name ++ 32 ∷ decimal place.term)
+
+-- project's own choice: why an outcome is no verdict, and where
+abbrev pub cause_text : Outcome → List ℕ
+cause_text (Is verdict) = []
+cause_text (Nothing place) = cause_words cause.NoRecord place
+cause_text (Perm cause place) = cause_words cause place
+cause_text (Temp cause place) = cause_words cause place
+cause_text (Unsettled cause place) = cause_words cause place
 
 -- RFC 7208, section 2.6: the words of an outcome. `open` is the project's own
 abbrev pub outcome_words : Outcome → List ℕ

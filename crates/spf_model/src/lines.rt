@@ -1,6 +1,6 @@
 //! The words of an outcome.
 ghost use Rattle.std.specs.Prelude.{◌≡◌, ◌++◌, IfOk, OnOk};
-ghost use Rattle.spf_model.specs.Lines.{verdict_word as verdict_text, cause_word as cause_text, cause_words, outcome_words};
+ghost use Rattle.spf_model.specs.Lines.{verdict_word as word_of_verdict, cause_word as word_of_cause, cause_words, cause_text, outcome_words};
 
 use crate::{Cause, Outcome, Place};
 use addr_bits::Bytes;
@@ -9,7 +9,7 @@ use spf_grammar::Verdict;
 use std::alloc::{AllocError, Global};
 
 fn verdict_word(verdict: Verdict) -> &'static str
-    ensures { result.now ≡ verdict_text verdict }
+    ensures { result.now ≡ word_of_verdict verdict }
 {
     match verdict {
         Verdict::Fail => "fail",
@@ -20,7 +20,7 @@ fn verdict_word(verdict: Verdict) -> &'static str
 }
 
 fn cause_word(cause: Cause) -> &'static str
-    ensures { result.now ≡ cause_text cause }
+    ensures { result.now ≡ word_of_cause cause }
 {
     match cause {
         Cause::NoRecord => "norecord",
@@ -80,6 +80,22 @@ pub fn write_outcome(alloc: Global, outcome: &Outcome) -> Result<Bytes, AllocErr
             words.extend_from_slice(b"open ")?;
             push_cause(alloc, &mut words, *cause, place)?;
         }
+    }
+    Ok(words)
+}
+
+/// Why an outcome is no verdict, and where: the cause, the printed name of the record, and the number of the term, as in
+/// `lookups example.com 7`. Of a verdict there is nothing.
+pub fn write_cause(alloc: Global, outcome: &Outcome) -> Result<Bytes, AllocError>
+    ensures { IfOk result (λ words. words ≡ cause_text outcome.now) }
+{
+    let mut words = Bytes::new(alloc);
+    match outcome {
+        Outcome::Is(_) => {}
+        Outcome::Nothing(place) => push_cause(alloc, &mut words, Cause::NoRecord, place)?,
+        Outcome::Perm(cause, place)
+        | Outcome::Temp(cause, place)
+        | Outcome::Unsettled(cause, place) => push_cause(alloc, &mut words, *cause, place)?,
     }
     Ok(words)
 }

@@ -1,29 +1,21 @@
--- What is due for terms, by the list that was found.
-use Rattle.std.proofs.Common.{◌≡◌, ◌<◌, ◌≤◌, ◌+◌, ◌^◌, ℕ, Bool, true, false, IsFalse, nat_lt, List, length, Some, Result, Ok, Err, IfOk, IfErr, refl, ap, ◌∙◌, subst, arith}
+-- What is due for verdicts, by the list that was found.
+use Rattle.std.proofs.Common.{◌≡◌, ◌<◌, ◌≤◌, ◌+◌, ℕ, Bool, true, false, IsFalse, nat_lt, List, length, Result, Ok, Err, IfOk, IfErr, refl, ap, ◌∙◌, subst, arith}
 use Rattle.std.proofs.lemmas.Bool.{ltb-true, ltb-false}
 use Rattle.addr_bits.specs.Prefix.{Cidr}
-use Rattle.addr_bits.specs.declared.address.Address.TheVariants.{V4, V6}
-use Rattle.prefix_trie.specs.Leaves.{value_at}
 use Rattle.spf_grammar.specs.declared.verdict.Verdict.{Verdict}
 use Rattle.spf_grammar.specs.declared.flat.FlatTerm.{FlatTerm}
-use Rattle.spf_grammar.specs.Flat.{first}
 use Rattle.fewest_terms.specs.Row.{NeedRow}
 use Rattle.fewest_terms.specs.Chosen.{chosen_list}
 use Rattle.fewest_terms.specs.Totals.{total}
 use Rattle.fewest_terms.specs.Tables.{need_rows}
-use Rattle.fewest_terms.specs.Leaves.{or_neutral, verdict_at}
+use Rattle.fewest_terms.specs.Leaves.{verdict_at}
 use Rattle.spfc_top.specs.declared.stop.Stop.{Stop}
 use Rattle.spfc_top.specs.declared.stop.Stop.TheVariants as stop
 use Rattle.spfc_top.specs.Due.{Refuses, Gives}
 use Rattle.zone_answers.specs.Zone.{Zone}
 use Rattle.zone_answers.specs.Names.{has_own_alias, other_text_of}
-use Rattle.spfc_top.specs.Compiled.{Wanted, AreVerdicts, IsChosenCut, is_needed_taken, ListDue, too_big, taken, TermsDue, packed}
-use Rattle.spfc_top.specs.Answers.{StopsTerms, StopsList, IsTooBig, IsTakenStop}
-
--- tries that have the verdicts of the terms
-pub tries_verdicts : (terms : List FlatTerm) (leaves4 leaves6 : List (Cidr × Verdict)) → ((a : ℕ) → a < 2 ^ 32 → value_at 32 leaves4 a ≡ Some (first terms (V4 a))) →
-    ((a : ℕ) → a < 2 ^ 128 → value_at 128 leaves6 a ≡ Some (first terms (V6 a))) → AreVerdicts terms (verdict_at 32 leaves4) (verdict_at 128 leaves6)
-tries_verdicts terms leaves4 leaves6 four six = record { four = λ a lt. ap or_neutral (four a lt); six = λ a lt. ap or_neutral (six a lt) }
+use Rattle.spfc_top.specs.Compiled.{Wanted, IsChosenCut, is_needed_taken, ListDue, too_big, taken, VerdictsDue, packed}
+use Rattle.spfc_top.specs.Answers.{StopsVerdicts, StopsList, IsTooBig, IsTakenStop}
 
 -- a list, its rows and its total, as they are chosen
 pub record IsChosen (v4 v6 : ℕ → Verdict) (list : List FlatTerm) (rows4 rows6 : List NeedRow) (sum : ℕ) : Type 0 where
@@ -32,21 +24,21 @@ pub record IsChosen (v4 v6 : ℕ → Verdict) (list : List FlatTerm) (rows4 rows
   pub rows6_are : rows6 ≡ need_rows 128 v6 128 0
   pub sum_is : sum ≡ total v4 v6
 
--- ---- from the list to the terms
-pub list_due : (want : Wanted) (zones : List Zone) (name : List (List ℕ)) (terms : List FlatTerm) (v4 v6 : ℕ → Verdict) (list : List FlatTerm) (rows4 rows6 : List NeedRow) (sum : ℕ) (r : Result (List ℕ) Stop) →
-    IsFalse (has_own_alias zones name) → AreVerdicts terms v4 v6 → IsChosen v4 v6 list rows4 rows6 sum →
-    IfOk r (λ bytes. ListDue want zones (other_text_of zones name) list rows4 rows6 sum (Gives bytes)) → IfOk r (λ bytes. TermsDue want zones name terms (Gives bytes))
-list_due want zones name terms v4 v6 list rows4 rows6 sum (Err e) own are is due = tt
-list_due want zones name terms v4 v6 list rows4 rows6 sum (Ok bytes) own are is due = packed v4 v6 own are (rw (is.list_is, is.rows4_are, is.rows6_are, is.sum_is) at due)
+-- ---- from the list to the verdicts
+pub list_due : (want : Wanted) (zones : List Zone) (name : List (List ℕ)) (v4 v6 : ℕ → Verdict) (list : List FlatTerm) (rows4 rows6 : List NeedRow) (sum : ℕ) (r : Result (List ℕ) Stop) →
+    IsFalse (has_own_alias zones name) → IsChosen v4 v6 list rows4 rows6 sum →
+    IfOk r (λ bytes. ListDue want zones (other_text_of zones name) list rows4 rows6 sum (Gives bytes)) → IfOk r (λ bytes. VerdictsDue want zones name v4 v6 (Gives bytes))
+list_due want zones name v4 v6 list rows4 rows6 sum (Err e) own is due = tt
+list_due want zones name v4 v6 list rows4 rows6 sum (Ok bytes) own is due = packed own (rw (is.list_is, is.rows4_are, is.rows6_are, is.sum_is) at due)
 
-pub list_stops : (want : Wanted) (zones : List Zone) (name : List (List ℕ)) (terms : List FlatTerm) (v4 v6 : ℕ → Verdict) (list : List FlatTerm) (rows4 rows6 : List NeedRow) (sum : ℕ) (r : Result (List ℕ) Stop) →
-    IsFalse (has_own_alias zones name) → AreVerdicts terms v4 v6 → IsChosen v4 v6 list rows4 rows6 sum →
-    IfErr r (StopsList want zones (other_text_of zones name) list rows4 rows6 sum) → IfErr r (StopsTerms want zones name terms)
-list_stops want zones name terms v4 v6 list rows4 rows6 sum (Ok bytes) own are is h = tt
-list_stops want zones name terms v4 v6 list rows4 rows6 sum (Err (stop.Refusal status line)) own are is h =
-    (h.0, packed v4 v6 own are (rw (is.list_is, is.rows4_are, is.rows6_are, is.sum_is) at h.1))
-list_stops want zones name terms v4 v6 list rows4 rows6 sum (Err (stop.ReadFault line)) own are is h = absurd h
-list_stops want zones name terms v4 v6 list rows4 rows6 sum (Err stop.Memory) own are is h = tt
+pub list_stops : (want : Wanted) (zones : List Zone) (name : List (List ℕ)) (v4 v6 : List (Cidr × Verdict)) (list : List FlatTerm) (rows4 rows6 : List NeedRow) (sum : ℕ) (r : Result (List ℕ) Stop) →
+    IsFalse (has_own_alias zones name) → IsChosen (verdict_at 32 v4) (verdict_at 128 v6) list rows4 rows6 sum →
+    IfErr r (StopsList want zones (other_text_of zones name) list rows4 rows6 sum) → IfErr r (StopsVerdicts want zones name v4 v6)
+list_stops want zones name v4 v6 list rows4 rows6 sum (Ok bytes) own is h = tt
+list_stops want zones name v4 v6 list rows4 rows6 sum (Err (stop.Refusal status line)) own is h =
+    (h.0, packed own (rw (is.list_is, is.rows4_are, is.rows6_are, is.sum_is) at h.1))
+list_stops want zones name v4 v6 list rows4 rows6 sum (Err (stop.ReadFault line)) own is h = absurd h
+list_stops want zones name v4 v6 list rows4 rows6 sum (Err stop.Memory) own is h = tt
 
 -- ---- why a list gives no output
 pub too_big_stops : (want : Wanted) (zones : List Zone) (others : ℕ) (list : List FlatTerm) (rows4 rows6 : List NeedRow) (sum : ℕ) (s : Stop) → IsTooBig want others list s → StopsList want zones others list rows4 rows6 sum s

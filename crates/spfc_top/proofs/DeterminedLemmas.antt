@@ -1,13 +1,8 @@
 -- One thing is due at most.
-use Rattle.std.proofs.Common.{◌≡◌, ◌<◌, ◌+◌, ℕ, Bool, IsTrue, IsFalse, List, [], ◌∷◌, length, map, Some, Ok, Err, Option, refl, sym, ap, ap₂, ◌∙◌, subst, arith}
+use Rattle.std.proofs.Common.{◌≡◌, ◌<◌, ◌+◌, ℕ, Bool, IsTrue, IsFalse, List, [], ◌∷◌, length, Ok, Err, refl, sym, ap, ap₂, ◌∙◌, subst, arith}
 use Rattle.zone_answers.specs.Zone.{Zone}
-use Rattle.zone_answers.specs.Answers.{answer_of}
-use Rattle.zone_answers.specs.declared.answer.QKind.TheVariants as kinds
 use Rattle.spf_grammar.specs.declared.verdict.Verdict.{Verdict}
 use Rattle.spf_grammar.specs.declared.flat.FlatTerm.{FlatTerm}
-use Rattle.addr_bits.proofs.Texts.{one_address}
-use Rattle.spf_grammar.proofs.OnePolicy.{one_policy}
-use Rattle.fewest_terms.proofs.Whole.{below_all}
 use Rattle.fewest_terms.specs.Chosen.{chosen_list}
 use Rattle.fewest_terms.specs.Totals.{total}
 use Rattle.fewest_terms.specs.Tables.{need_rows}
@@ -18,33 +13,22 @@ use Rattle.spfc_top.specs.Due.{Due, Gives, Refuses}
 use Rattle.fewest_terms.specs.Row.{NeedRow}
 use Rattle.zone_answers.specs.Names.{other_text_of}
 use Rattle.record_pack.specs.Records.{RiseTo, RecordsFit, TakeMost}
-use Rattle.spfc_top.specs.Compiled.{Wanted, wanted, wanted_text, needed_name, AreVerdicts, IsChosenCut, IsFirstTaken, AreFree, ListDue, too_big, taken, written, TermsDue, alias, packed}
+use Rattle.spfc_top.specs.Compiled.{Wanted, wanted, wanted_text, needed_name, verdict_at, IsChosenCut, IsFirstTaken, AreFree, ListDue, too_big, taken, written, VerdictsDue, alias, packed}
 use Rattle.addr_bits.specs.declared.address.Address.{Address}
 use Rattle.spf_model.specs.declared.outcome.Limits.{Limits}
 use Rattle.spf_model.specs.declared.outcome.Outcome.{Outcome}
 use Rattle.spf_model.specs.Run.{says}
-use Rattle.spf_model.specs.Result as model
+use Rattle.spf_model.specs.Result.{AllHave}
+use Rattle.spf_model.specs.Judging.{Labels}
 use Rattle.spf_model.specs.Lines.{outcome_words}
-use Rattle.spf_model.specs.Check.{check_host}
-use Rattle.spf_model.proofs.RunLaws.{one_end}
-use Rattle.spfc_top.specs.Lines.{line_of, taken_line}
+use Rattle.spfc_top.specs.Lines.{line_of, refused_line, taken_line}
 use Rattle.spfc_top.specs.Zones.{Contents}
-use Rattle.spfc_top.specs.Published.{SpellsFlat, Publishes, spf_texts, flat_term}
-use Rattle.spfc_top.specs.Findings.{PolicyDue, not_yet, published, OutcomeDue, ZonesDue, IsDue}
+use Rattle.spfc_top.specs.Findings.{PolicyDue, refused, kept, OutcomeDue, ZonesDue, IsDue}
 use Rattle.spfc_top.specs.Ends.{usage, job, OneIsDue}
 use Rattle.spfc_top.proofs.SameVerdicts.{Agree, rows_same, total_same, chosen_list_same}
+use Rattle.spfc_top.proofs.OutcomeLemmas.{some_once, one_outcome, agree_four, agree_six, one_refused, kept_or_refused}
 use Rattle.spfc_words.proofs.OneJob.{one_job}
-use Rattle.spfc_top.proofs.ZonesLemmas.{ok_twice, err_twice, ok_not, one_twice, one_of_words}
-
--- ---- the terms come to one end
-agree_four : (terms : List FlatTerm) (v4 v6 w4 w6 : ℕ → Verdict) → AreVerdicts terms v4 v6 → AreVerdicts terms w4 w6 → Agree v4 w4 32 0
-agree_four terms v4 v6 w4 w6 a b = record { agree = λ x e. a.four x (below_all 32 x e) ∙ sym (b.four x (below_all 32 x e)) }
-
-agree_six : (terms : List FlatTerm) (v4 v6 w4 w6 : ℕ → Verdict) → AreVerdicts terms v4 v6 → AreVerdicts terms w4 w6 → Agree v6 w6 128 0
-agree_six terms v4 v6 w4 w6 a b = record { agree = λ x e. a.six x (below_all 128 x e) ∙ sym (b.six x (below_all 128 x e)) }
-
-list_same : (terms : List FlatTerm) (v4 v6 w4 w6 : ℕ → Verdict) → AreVerdicts terms v4 v6 → AreVerdicts terms w4 w6 → chosen_list v4 v6 ≡ chosen_list w4 w6
-list_same terms v4 v6 w4 w6 a b = chosen_list_same v4 w4 v6 w6 (agree_four terms v4 v6 w4 w6 a b) (agree_six terms v4 v6 w4 w6 a b)
+use Rattle.spfc_top.proofs.ZonesLemmas.{ok_twice, err_twice, ok_not, one_of_words}
 
 -- ---- one cut is chosen
 one_rest : (want : Wanted) (others : ℕ) (list : List FlatTerm) (k from : ℕ) (a b : List ℕ) → length a ≡ length b → RiseTo from (length list) a → RiseTo from (length list) b →
@@ -103,7 +87,7 @@ one_of_list want zones others list rows4 rows6 sum x y (written ends chosen free
 one_of_list want zones others list rows4 rows6 sum x y (written ends chosen free is) (written ends' chosen' free' is') =
     is ∙ (ap (λ (es : List ℕ). Gives (wanted_text want list es rows4 rows6 sum)) (one_cut want others list ends ends' chosen chosen') ∙ sym is')
 
--- ---- and so do the terms
+-- ---- and so do the verdicts
 moved_due : (want : Wanted) (zones : List Zone) (others : ℕ) (l m : List FlatTerm) (a b c d : List NeedRow) (s t : ℕ) (x : Due) → l ≡ m → a ≡ b → c ≡ d → s ≡ t → ListDue want zones others l a c s x → ListDue want zones others m b d t x
 moved_due want zones others l m a b c d s t x lists four six sums due =
     subst (λ (q : ℕ). ListDue want zones others m b d q x) sums
@@ -111,62 +95,27 @@ moved_due want zones others l m a b c d s t x lists four six sums due =
     (subst (λ (q : List NeedRow). ListDue want zones others m q c s x) four
     (subst (λ (q : List FlatTerm). ListDue want zones others q a c s x) lists due)))
 
-one_of_terms : (want : Wanted) (zones : List Zone) (name : List (List ℕ)) (terms : List FlatTerm) (x y : Due) → TermsDue want zones name terms x → TermsDue want zones name terms y → x ≡ y
-one_of_terms want zones name terms x y (alias own is) (alias own' is') = is ∙ sym is'
-one_of_terms want zones name terms x y (alias own is) (packed v4 v6 none are due) = absurd (not_both _ none own)
-one_of_terms want zones name terms x y (packed v4 v6 none are due) (alias own is) = absurd (not_both _ none own)
-one_of_terms want zones name terms x y (packed v4 v6 none a due) (packed w4 w6 none' b due') =
-    let four : Agree w4 v4 32 0 = agree_four terms w4 w6 v4 v6 b a in
-    let six : Agree w6 v6 128 0 = agree_six terms w4 w6 v4 v6 b a in
+one_of_verdicts : (want : Wanted) (limits : Limits) (zones : List Zone) (name : Labels) (v4 v6 w4 w6 : ℕ → Verdict) (x y : Due) → AllHave (says zones) limits want.domain (verdict_at v4 v6) → AllHave (says zones) limits want.domain (verdict_at w4 w6)
+    → VerdictsDue want zones name v4 v6 x → VerdictsDue want zones name w4 w6 y → x ≡ y
+one_of_verdicts want limits zones name v4 v6 w4 w6 x y a b (alias own is) (alias own' is') = is ∙ sym is'
+one_of_verdicts want limits zones name v4 v6 w4 w6 x y a b (alias own is) (packed none due) = absurd (not_both _ none own)
+one_of_verdicts want limits zones name v4 v6 w4 w6 x y a b (packed none due) (alias own is) = absurd (not_both _ none own)
+one_of_verdicts want limits zones name v4 v6 w4 w6 x y a b (packed none due) (packed none' due') =
+    let four : Agree w4 v4 32 0 = agree_four (says zones) limits want.domain w4 w6 v4 v6 b a in
+    let six : Agree w6 v6 128 0 = agree_six (says zones) limits want.domain w4 w6 v4 v6 b a in
     one_of_list want zones (other_text_of zones name) (chosen_list v4 v6) (need_rows 32 v4 32 0) (need_rows 128 v6 128 0) (total v4 v6) x y due
-    (moved_due want zones (other_text_of zones name) _ _ _ _ _ _ _ _ y (list_same terms w4 w6 v4 v6 b a) (rows_same 32 w4 v4 32 0 four) (rows_same 128 w6 v6 128 0 six) (total_same w4 v4 w6 v6 four six) due')
+    (moved_due want zones (other_text_of zones name) _ _ _ _ _ _ _ _ y (chosen_list_same w4 v4 w6 v6 four six) (rows_same 32 w4 v4 32 0 four) (rows_same 128 w6 v6 128 0 six) (total_same w4 v4 w6 v6 four six) due')
 
--- ---- zones publish one list
-some_twice : (xs ys : List FlatTerm) → map Some xs ≡ map Some ys → xs ≡ ys
-some_twice [] [] e = refl
-some_twice [] (y ∷ ys) e = absurd (no e)
-  where
-    no : {v : Option FlatTerm} {vs : List (Option FlatTerm)} → [] ≡ v ∷ vs → ⊥
-    no e = cc
-some_twice (x ∷ xs) [] e = absurd (no e)
-  where
-    no : {v : Option FlatTerm} {vs : List (Option FlatTerm)} → v ∷ vs ≡ [] → ⊥
-    no e = cc
-some_twice (x ∷ xs) (y ∷ ys) e = first (head e) (some_twice xs ys (tail e))
-  where
-    first : x ≡ y → xs ≡ ys → x ∷ xs ≡ y ∷ ys
-    first a b = cc
-
-    head : Some x ∷ map Some xs ≡ Some y ∷ map Some ys → x ≡ y
-    head e = cc
-
-    tail : Some x ∷ map Some xs ≡ Some y ∷ map Some ys → map Some xs ≡ map Some ys
-    tail e = cc
-
-some_once : {A : Type 0} {found : Option A} {a b : A} → found ≡ Some a → found ≡ Some b → a ≡ b
-some_once p q = cc
-
-one_flat : (text : List ℕ) (xs ys : List FlatTerm) → SpellsFlat text xs → SpellsFlat text ys → xs ≡ ys
-one_flat text xs ys a b =
-    let same : a.policy ≡ b.policy = one_policy one_address text a.policy b.policy a.spelled b.spelled in
-    some_twice xs ys (sym a.flat ∙ (ap (λ policy. map flat_term policy.terms) same ∙ b.flat))
-
-one_published : (zones : List Zone) (domain : List ℕ) (xs ys : List FlatTerm) → Publishes zones domain xs → Publishes zones domain ys → xs ≡ ys
-one_published zones domain xs ys a b =
-    let name : b.name ≡ a.name = ok_twice b.named a.named in
-    let alone : spf_texts (answer_of zones a.name kinds.Txt) ≡ b.text ∷ [] = rw name at b.alone in
-    let text : b.text ≡ a.text = one_twice alone a.alone in
-    one_flat a.text xs ys a.spelled (rw text at b.spelled)
-
-one_of_policy : (want : Wanted) (zones : List Zone) (x y : Due) → PolicyDue want zones x → PolicyDue want zones y → x ≡ y
-one_of_policy want zones x y (not_yet none is) (not_yet none' is') = is ∙ sym is'
-one_of_policy want zones x y (not_yet none is) (published terms has due) = absurd (none terms has)
-one_of_policy want zones x y (published terms has due) (not_yet none is) = absurd (none terms has)
-one_of_policy want zones x y (published terms has due) (published terms' has' due') =
-    let name : has'.name ≡ has.name = ok_twice has'.named has.named in
-    let same : terms' ≡ terms = one_published zones want.domain terms' terms has' has in
-    one_of_terms want zones has.name terms x y due
-    (subst (λ (ts : List FlatTerm). TermsDue want zones has.name ts y) same (subst (λ (n : List (List ℕ)). TermsDue want zones n terms' y) name due'))
+-- ---- and so does a policy
+one_of_policy : (want : Wanted) (limits : Limits) (zones : List Zone) (x y : Due) → PolicyDue want limits zones x → PolicyDue want limits zones y → x ≡ y
+one_of_policy want limits zones x y (refused a o least is) (refused b p least' is') =
+    let same = one_refused (says zones) limits want.domain a b o p least least' in
+    is ∙ (ap₂ (λ (c : Address) (q : Outcome). Refuses 1 (refused_line c q)) same.0 same.1 ∙ sym is')
+one_of_policy want limits zones x y (refused a o least is) (kept name v4 v6 named all due) = absurd (kept_or_refused (says zones) limits want.domain a o (verdict_at v4 v6) least all)
+one_of_policy want limits zones x y (kept name v4 v6 named all due) (refused a o least is) = absurd (kept_or_refused (says zones) limits want.domain a o (verdict_at v4 v6) least all)
+one_of_policy want limits zones x y (kept name v4 v6 named all due) (kept other w4 w6 named' all' due') =
+    let same : other ≡ name = some_once named' named in
+    one_of_verdicts want limits zones name v4 v6 w4 w6 x y all all' due (subst (λ (n : Labels). VerdictsDue want zones n w4 w6 y) same due')
 
 -- ---- and so do zone words, the job and the words
 one_behind : (held : Contents) (words : List ZoneWord) (Next : List Zone → Due → Type 0) (x y : Due) → ((zones : List Zone) (a b : Due) → Next zones a → Next zones b → a ≡ b)
@@ -177,18 +126,14 @@ one_behind held words Next x y one (Err line, a, n) (Ok zones, a', n') = absurd 
 one_behind held words Next x y one (Err line, a, n) (Err line', a', n') =
     n ∙ (ap (λ (l : List ℕ). Refuses 3 l) (err_twice refl (one_of_words held [] words _ _ a a')) ∙ sym n')
 
-one_outcome : (zones : List Zone) (limits : Limits) (domain : List ℕ) (a : Address) (o p : Outcome) → model.Gives (says zones) limits domain a o → model.Gives (says zones) limits domain a p → o ≡ p
-one_outcome zones limits domain a o p (name, counts, named, ends) (name', counts', named', ends') =
-    (one_end (one_policy one_address) (says zones) (check_host limits a domain name) o p counts counts' ends (rw (some_once named' named) at ends')).0
-
 gives_twice : (o p : Outcome) → o ≡ p → Gives (line_of [] (outcome_words o)) ≡ Gives (line_of [] (outcome_words p))
 gives_twice o p same = ap (λ (x : Outcome). Gives (line_of [] (outcome_words x))) same
 
 one_of_outcome : (domain : List ℕ) (address : Address) (limits : Limits) (zones : List Zone) (x y : Due) → OutcomeDue domain address limits zones x → OutcomeDue domain address limits zones y → x ≡ y
-one_of_outcome domain address limits zones x y (o, g, is) (p, h, is') = is ∙ (gives_twice o p (one_outcome zones limits domain address o p g h) ∙ sym is')
+one_of_outcome domain address limits zones x y (o, g, is) (p, h, is') = is ∙ (gives_twice o p (one_outcome (says zones) limits domain address o p g h) ∙ sym is')
 
 one_of_job : (j : Job) (held : Contents) (x y : Due) → IsDue j held x → IsDue j held y → x ≡ y
-one_of_job (Compile domain size ttl label words) held x y a b = one_behind held words _ x y (one_of_policy (wanted domain size ttl label)) a b
+one_of_job (Compile domain limits size ttl label words) held x y a b = one_behind held words _ x y (one_of_policy (wanted domain size ttl label) limits) a b
 one_of_job (Check domain address limits words) held x y a b = one_behind held words _ x y (one_of_outcome domain address limits) a b
 
 pub one_is_due : OneIsDue

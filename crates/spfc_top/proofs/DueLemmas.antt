@@ -1,12 +1,14 @@
 -- What is due for a job, by what was read.
-use Rattle.std.proofs.Common.{◌≡◌, ◌∙◌, sym, subst, ◌≤◌, ◌||◌, ℕ, Bool, true, false, List, [], ◌∷◌, Option, Result, Ok, Err, IfOk, IfErr, IsTrue, ap, arith}
+use Rattle.std.proofs.Common.{◌≡◌, ◌∙◌, sym, subst, ◌≤◌, ◌||◌, ℕ, Bool, true, false, List, [], ◌∷◌, Option, Some, IsSome, Result, Ok, Err, IsOk, IfOk, IfErr, IsTrue, refl, ap, arith}
 use Rattle.zone_answers.specs.Zone.{Zone}
-use Rattle.spf_grammar.specs.declared.flat.FlatTerm.{FlatTerm}
+use Rattle.addr_bits.specs.Prefix.{Cidr}
+use Rattle.spf_grammar.specs.declared.verdict.Verdict.{Verdict}
 use Rattle.spfc_words.specs.declared.job.Job.{Job}
 use Rattle.spfc_words.specs.declared.job.Job.TheVariants.{Compile, Check}
 use Rattle.spfc_words.specs.Options.{Setting, AreLimits, IsOption, IsNumber}
 use Rattle.spf_model.specs.declared.outcome.Limits.{Limits}
 use Rattle.spf_model.specs.Result.{AreModest}
+use Rattle.spf_model.specs.Judging.{Labels, legal, name_of}
 use Rattle.spfc_words.proofs.Domains.{domain_is_name}
 use Rattle.spfc_words.specs.declared.zone_word.ZoneWord.{ZoneWord}
 use Rattle.spfc_words.specs.Words.{Spells}
@@ -15,12 +17,11 @@ use Rattle.spfc_top.specs.declared.stop.Stop.TheVariants as stop
 use Rattle.spfc_top.specs.Due.{Due, Refuses, Gives}
 use Rattle.dns_name.specs.Name.{name_of_text}
 use Rattle.dns_name.specs.declared.fault.NameFault.{NameFault}
-use Rattle.spfc_top.specs.Compiled.{Wanted, TermsDue}
-use Rattle.spfc_top.proofs.ZonesLemmas.{ok_twice}
+use Rattle.fewest_terms.specs.Leaves.{verdict_at as trie_verdict}
+use Rattle.spfc_top.specs.Compiled.{Wanted, VerdictsDue}
 use Rattle.spfc_top.specs.Zones.{Contents, ZoneWordsDue}
-use Rattle.spfc_top.specs.Published.{Publishes}
-use Rattle.spfc_top.specs.Findings.{PolicyDue, published, ZonesDue, IsDue, IsReady, words_of}
-use Rattle.spfc_top.specs.Answers.{FaultAmong, StopsBy, StopsTerms, RefusedBy, IsNoFault}
+use Rattle.spfc_top.specs.Findings.{PolicyDue, refused, kept, ZonesDue, IsDue, IsReady, words_of}
+use Rattle.spfc_top.specs.Answers.{FaultAmong, StopsBy, StopsVerdicts, StopsPolicy, IsRefusedStop, KeepVerdicts, RefusedBy, IsNoFault}
 use Rattle.spfc_top.specs.Ends.{Given, Tells, IsFinding, IsOutput, IsReadFault}
 
 told_alone : (told : Bool) → IsTrue (told || false) → IsTrue told
@@ -28,7 +29,7 @@ told_alone true h = h
 told_alone false h = h
 
 told_told : (g : Given) (job : Job) → Tells g job → IsTrue g.told
-told_told g (Compile domain size ttl label words) tells = told_alone g.told tells
+told_told g (Compile domain limits size ttl label words) tells = told_alone g.told tells
 told_told g (Check domain address limits words) tells = told_alone g.told tells
 
 pub job_refused : (g : Given) (job : Job) (status : ℕ) (line : List ℕ) → Spells g.words job → (IsTrue g.told → IsDue job g.held (Refuses status line)) → IsFinding g status line
@@ -64,7 +65,11 @@ modest settings limits are = record {
 }
 
 pub ready : (words : List (List ℕ)) (job : Job) → Spells words job → IsReady job
-ready words (Compile domain size ttl label zones) is = tt
+ready [] (Compile domain limits size ttl label zones) is = absurd is
+ready (command ∷ []) (Compile domain limits size ttl label zones) is = absurd is.1
+ready (command ∷ word ∷ words) (Compile domain limits size ttl label zones) is =
+    let compiled = is.1 in
+    (rw compiled.lower (domain_is_name word compiled.form), modest _ limits compiled.reading)
 ready [] (Check domain address limits zones) is = absurd is
 ready (command ∷ []) (Check domain address limits zones) is = absurd is.1
 ready (command ∷ word ∷ []) (Check domain address limits zones) is = absurd is.1
@@ -72,26 +77,33 @@ ready (command ∷ word ∷ address_word ∷ words) (Check domain address limits
     let checked = is.1 in
     (rw checked.lower (domain_is_name word checked.form), modest _ limits checked.reading)
 
--- ---- what the terms of the zones come to
-pub policy_done : {E : Type 0} (want : Wanted) (zones : List Zone) (name : List (List ℕ)) (terms : List FlatTerm) (r : Result (List ℕ) E) → name_of_text want.domain ≡ Ok name → Publishes zones want.domain terms
-    → IfOk r (λ bytes. TermsDue want zones name terms (Gives bytes)) → IfOk r (λ bytes. PolicyDue want zones (Gives bytes))
-policy_done want zones name terms (Ok bytes) named has due = published terms has (subst (λ (n : List (List ℕ)). TermsDue want zones n terms (Gives bytes)) (ok_twice named has.named) due)
-policy_done want zones name terms (Err e) named has due = tt
+-- ---- what a policy comes to
+legal_some : (r : Result Labels NameFault) → IsOk r → IsSome (legal r)
+legal_some (Ok name) h = refl
+legal_some (Err fault) h = h
 
-pub policy_stops : (want : Wanted) (zones : List Zone) (name : List (List ℕ)) (terms : List FlatTerm) (r : Result (List ℕ) Stop) → name_of_text want.domain ≡ Ok name → Publishes zones want.domain terms
-    → IfErr r (StopsTerms want zones name terms) → IfErr r (StopsBy (λ status line. PolicyDue want zones (Refuses status line)) (λ line. ⊥))
-policy_stops want zones name terms (Ok bytes) named has stops = tt
-policy_stops want zones name terms (Err (stop.Refusal status line)) named has stops =
-    (stops.0, published terms has (subst (λ (n : List (List ℕ)). TermsDue want zones n terms (Refuses status line)) (ok_twice named has.named) stops.1))
-policy_stops want zones name terms (Err (stop.ReadFault line)) named has stops = absurd stops
-policy_stops want zones name terms (Err stop.Memory) named has stops = tt
+-- a domain that is a name has one
+pub has_name : (domain : List ℕ) (found : Option Labels) → found ≡ name_of domain → IsOk (name_of_text domain) → IsSome found
+unfolding name_of
+has_name domain found is ok = subst (λ (f : Option Labels). IsSome f) (sym is) (legal_some (name_of_text domain) ok)
 
--- a text that is no name has no policy
-pub no_name : (zones : List Zone) (domain : List ℕ) (fault : NameFault) → name_of_text domain ≡ Err fault → (terms : List FlatTerm) → ¬ Publishes zones domain terms
-no_name zones domain fault is terms has = clash (sym is ∙ has.named)
-  where
-    clash : {name : List (List ℕ)} → Err fault ≡ Ok name → ⊥
-    clash e = cc
+pub policy_done : {E : Type 0} (want : Wanted) (limits : Limits) (zones : List Zone) (name : Labels) (v4 v6 : List (Cidr × Verdict)) (r : Result (List ℕ) E) → name_of want.domain ≡ Some name → KeepVerdicts limits zones want.domain v4 v6
+    → IfOk r (λ bytes. VerdictsDue want zones name (trie_verdict 32 v4) (trie_verdict 128 v6) (Gives bytes)) → IfOk r (λ bytes. PolicyDue want limits zones (Gives bytes))
+policy_done want limits zones name v4 v6 (Ok bytes) named keep due = kept name (trie_verdict 32 v4) (trie_verdict 128 v6) named keep due
+policy_done want limits zones name v4 v6 (Err e) named keep due = tt
+
+pub policy_stops : (want : Wanted) (limits : Limits) (zones : List Zone) (name : Labels) (v4 v6 : List (Cidr × Verdict)) (r : Result (List ℕ) Stop) → name_of want.domain ≡ Some name → KeepVerdicts limits zones want.domain v4 v6
+    → IfErr r (StopsVerdicts want zones name v4 v6) → IfErr r (StopsPolicy want limits zones)
+policy_stops want limits zones name v4 v6 (Ok bytes) named keep stops = tt
+policy_stops want limits zones name v4 v6 (Err (stop.Refusal status line)) named keep stops = (stops.0, kept name (trie_verdict 32 v4) (trie_verdict 128 v6) named keep stops.1)
+policy_stops want limits zones name v4 v6 (Err (stop.ReadFault line)) named keep stops = absurd stops
+policy_stops want limits zones name v4 v6 (Err stop.Memory) named keep stops = tt
+
+pub refused_stops : (want : Wanted) (limits : Limits) (zones : List Zone) (s : Stop) → IsRefusedStop limits zones want.domain s → StopsPolicy want limits zones s
+refused_stops want limits zones (stop.Refusal status line) (known, (one, address, outcome, least, words)) =
+    (known, refused address outcome least (ap (λ (n : ℕ). Refuses n line) one ∙ ap (λ (l : List ℕ). Refuses 1 l) words))
+refused_stops want limits zones (stop.ReadFault line) h = h
+refused_stops want limits zones stop.Memory h = tt
 
 -- ---- what zones come to behind their words
 pub behind_done : {E : Type 0} (told : Bool) (held : Contents) (words : List ZoneWord) (zones : List Zone) (Next : List Zone → Due → Type 0) (r : Result (List ℕ) E) →

@@ -2,9 +2,10 @@ pub mod CompiledLemmas
 pub mod DeterminedLemmas
 pub mod DueLemmas
 pub mod EndedLemmas
+pub mod EvaluationLemmas
 pub mod LendingLemmas
 pub mod OneLending
-pub mod PublishedLemmas
+pub mod OutcomeLemmas
 pub mod ReadingLemmas
 pub mod RecordTexts
 pub mod SameVerdicts

@@ -5,8 +5,18 @@ use Rattle.spfc_outer.specs.Causes.{Rose}
 use Rattle.master_reader.specs.Readers.{StandsFor, DecidesFault}
 use Rattle.zone_answers.specs.Zone.{Zone}
 use Rattle.zone_answers.specs.declared.fault.LendFault.{LendFault}
+use Rattle.addr_bits.specs.Prefix.{Cidr}
+use Rattle.addr_bits.specs.declared.address.Address.{Address}
+use Rattle.spf_grammar.specs.declared.verdict.Verdict.{Verdict}
 use Rattle.spf_grammar.specs.declared.flat.FlatTerm.{FlatTerm}
+use Rattle.spf_model.specs.declared.outcome.Limits.{Limits}
+use Rattle.spf_model.specs.declared.outcome.Outcome.{Outcome}
+use Rattle.spf_model.specs.Run.{says}
+use Rattle.spf_model.specs.Result.{AllHave}
+use Rattle.verdict_map.specs.declared.fault.VerdictFault.{VerdictFault}
+use Rattle.verdict_map.specs.declared.fault.VerdictFault.TheVariants as fault
 use Rattle.fewest_terms.specs.Row.{NeedRow}
+use Rattle.fewest_terms.specs.Leaves.{verdict_at as trie_verdict}
 use Rattle.spfc_words.specs.declared.zone_word.ZoneWord.{ZoneWord}
 use Rattle.spfc_top.specs.declared.answer.Answer.{Answer}
 use Rattle.spfc_top.specs.declared.answer.Answer.TheVariants.{Output, Usage, Refusal, ReadFault}
@@ -16,10 +26,11 @@ use Rattle.spfc_top.specs.declared.stop.Stop.TheVariants as stop
 use Rattle.spfc_top.specs.declared.reading.Taken.{Taken}
 use Rattle.spfc_top.specs.declared.reading.Progress.{Progress}
 use Rattle.spfc_top.specs.declared.reading.Progress.TheVariants.{Reads, Faulty}
-use Rattle.spfc_top.specs.Lines.{read_fault_line, too_big_line, taken_line}
+use Rattle.spfc_top.specs.Lines.{read_fault_line, too_big_line, refused_line, taken_line}
 use Rattle.spfc_top.specs.Zones.{Contents, most_bytes, lend_line, ZoneWordsDue, words_before}
 use Rattle.spfc_top.specs.Due.{Refuses}
-use Rattle.spfc_top.specs.Compiled.{Wanted, wanted, TermsDue, ListDue, CutFits, IsFirstTaken, needed_name}
+use Rattle.spfc_top.specs.Compiled.{Wanted, wanted, verdict_at, VerdictsDue, ListDue, CutFits, IsFirstTaken, needed_name}
+use Rattle.spfc_top.specs.Findings.{IsLeastRefused, PolicyDue}
 use Rattle.spfc_top.specs.Ends.{Given, IsOutput, IsFinding, IsUsage, IsReadFault, IsFindingStatus}
 
 abbrev pub IsAnswer : Given → ℕ → ℕ → Option (List ℕ) → Answer → Type 0
@@ -81,9 +92,31 @@ IsStopOf origin why stop.Memory = ⊤
 abbrev pub wanted_by : Form → Wanted
 wanted_by form = wanted form.domain.now form.size form.ttl form.label.now
 
--- why the terms give no output
-abbrev pub StopsTerms : Wanted → List Zone → (name : List (List ℕ)) → List FlatTerm → Stop → Type 0
-StopsTerms want zones name terms = StopsBy (λ status line. TermsDue want zones name terms (Refuses status line)) (λ line. ⊥)
+-- why the policy gives no output
+abbrev pub StopsPolicy : Wanted → Limits → List Zone → Stop → Type 0
+StopsPolicy want limits zones = StopsBy (λ status line. PolicyDue want limits zones (Refuses status line)) (λ line. ⊥)
+
+-- some address has no verdict
+abbrev pub IsRefusedStop : Limits → List Zone → (domain : List ℕ) → Stop → Type 0
+IsRefusedStop limits zones domain =
+    StopsBy (λ status line. (status ≡ 1) × (address : Address) × (outcome : Outcome) × IsLeastRefused (says zones) limits domain address outcome
+    × (line ≡ refused_line address outcome)) (λ line. ⊥)
+
+-- how a fault in the verdicts stops the job: by the line of an address that has none, or without one by want of memory
+abbrev pub IsFaultStop : VerdictFault → Stop → Type 0
+IsFaultStop why (stop.Refusal status line) =
+    (status ≡ 1) × (address : Address) × (outcome : Outcome) × (why ≡ fault.Refused address outcome) × (line ≡ refused_line address outcome)
+IsFaultStop why (stop.ReadFault line) = ⊥
+IsFaultStop why stop.Memory = ⊤
+
+-- the verdicts of two tries are those of check_host
+abbrev pub KeepVerdicts : Limits → List Zone → (domain : List ℕ) → (v4 v6 : List (Cidr × Verdict)) → Type 0
+KeepVerdicts limits zones domain v4 v6 = AllHave (says zones) limits domain (verdict_at (trie_verdict 32 v4) (trie_verdict 128 v6))
+
+-- why the verdicts give no output
+abbrev pub StopsVerdicts : Wanted → List Zone → (name : List (List ℕ)) → (v4 v6 : List (Cidr × Verdict)) → Stop → Type 0
+StopsVerdicts want zones name v4 v6 =
+    StopsBy (λ status line. VerdictsDue want zones name (trie_verdict 32 v4) (trie_verdict 128 v6) (Refuses status line)) (λ line. ⊥)
 
 -- why the list gives no output
 abbrev pub StopsList : Wanted → List Zone → (others : ℕ) → List FlatTerm → (rows4 rows6 : List NeedRow) → (sum : ℕ) → Stop → Type 0

@@ -1,7 +1,6 @@
 -- specs/Compiled.antt
--- What is due for the terms of a record: a shortest list with their verdicts, as the fewest records that fit.
-use Rattle.std.specs.Prelude.{ℕ, ◌≡◌, ◌<◌, ◌≤◌, ◌^◌, Bool, false, IsTrue, IsFalse, List, length, Result, Ok, Err}
-use Rattle.addr_bits.specs.Address.{IsAddress}
+-- What is due for verdicts: a shortest list that gives them, as the fewest records that fit.
+use Rattle.std.specs.Prelude.{ℕ, ◌≡◌, ◌<◌, ◌≤◌, Bool, false, IsTrue, IsFalse, List, length, Result, Ok, Err}
 use Rattle.addr_bits.specs.declared.address.Address.{Address}
 use Rattle.addr_bits.specs.declared.address.Address.TheVariants.{V4, V6}
 use Rattle.dns_name.specs.Name.{name_of_text}
@@ -17,6 +16,9 @@ use Rattle.fewest_terms.specs.Chosen.{chosen_list}
 use Rattle.fewest_terms.specs.Totals.{total}
 use Rattle.fewest_terms.specs.Tables.{need_rows, IsGoodTable}
 use Rattle.record_pack.specs.Records.{record_name, IsFittingCut, HasFewest, TakeMost}
+use Rattle.spf_model.specs.declared.outcome.Limits.{Limits}
+use Rattle.spf_model.specs.Run.{says}
+use Rattle.spf_model.specs.Result.{AllHave}
 use Rattle.zone_writer.specs.Fragment.{fragment_text}
 use Rattle.spfc_top.specs.Due.{Due, Refuses, Gives}
 use Rattle.spfc_top.specs.Lines.{too_big_line, alias_line, taken_line}
@@ -70,10 +72,10 @@ pub record IsFirstTaken (want : Wanted) (zones : List Zone) (records k : ℕ) : 
 abbrev pub AreFree : Wanted → List Zone → (records : ℕ) → Type 0
 AreFree want zones records = (k : ℕ) → 1 ≤ k → k < records → IsFalse (is_needed_taken want zones k)
 
--- RFC 7208, sections 4.6.2 and 4.7: the verdict of each address by the terms, for each family by the address's number
-pub record AreVerdicts (terms : List FlatTerm) (v4 v6 : ℕ → Verdict) : Type 0 where
-  pub four : (a : ℕ) → a < 2 ^ 32 → v4 a ≡ first terms (V4 a)
-  pub six : (a : ℕ) → a < 2 ^ 128 → v6 a ≡ first terms (V6 a)
+-- the verdict of an address, by its number in its family
+abbrev pub verdict_at : (v4 v6 : ℕ → Verdict) → Address → Verdict
+verdict_at v4 v6 (V4 a) = v4 a
+verdict_at v4 v6 (V6 a) = v6 a
 
 -- what is due for a chosen list, with its rows and its total
 pub data ListDue (want : Wanted) (zones : List Zone) (others : ℕ) (list : List FlatTerm) (rows4 rows6 : List NeedRow) (sum : ℕ) (due : Due) : Type 0 where
@@ -83,17 +85,18 @@ pub data ListDue (want : Wanted) (zones : List Zone) (others : ℕ) (list : List
   written : (ends : List ℕ) → IsChosenCut want others list ends → AreFree want zones (length ends)
       → due ≡ Gives (wanted_text want list ends rows4 rows6 sum) → ListDue want zones others list rows4 rows6 sum due
 
--- what is due for these terms, which stand at the name
-pub data TermsDue (want : Wanted) (zones : List Zone) (name : List (List ℕ)) (terms : List FlatTerm) (due : Due) : Type 0 where
-  alias : IsTrue (has_own_alias zones name) → due ≡ Refuses 1 (alias_line want.domain) → TermsDue want zones name terms due
-  packed : (v4 v6 : ℕ → Verdict) → IsFalse (has_own_alias zones name) → AreVerdicts terms v4 v6
+-- what is due for these verdicts, which the name has
+pub data VerdictsDue (want : Wanted) (zones : List Zone) (name : List (List ℕ)) (v4 v6 : ℕ → Verdict) (due : Due) : Type 0 where
+  alias : IsTrue (has_own_alias zones name) → due ≡ Refuses 1 (alias_line want.domain) → VerdictsDue want zones name v4 v6 due
+  packed : IsFalse (has_own_alias zones name)
       → ListDue want zones (other_text_of zones name) (chosen_list v4 v6) (need_rows 32 v4 32 0) (need_rows 128 v6 128 0) (total v4 v6) due
-      → TermsDue want zones name terms due
+      → VerdictsDue want zones name v4 v6 due
 
--- The bytes are the fragment of a list with the verdicts of the terms. No list with these verdicts has fewer terms, in any
--- order, with any mixture of families and any number of `all`, as the table of the fragment shows. The list stands in records
--- that fit beside the other texts at the name, no cut of it that fits has fewer records, and their names are free.
-pub record IsShortest (want : Wanted) (zones : List Zone) (name : List (List ℕ)) (terms : List FlatTerm) (bytes : List ℕ) : Type 0 where
+-- RFC 7208, section 4: the bytes are the fragment of a list which gives each address the verdict that check_host gives it over
+-- the zones. No list with these verdicts has fewer terms, in any order, with any mixture of families and any number of `all`,
+-- as the table of the fragment shows. The list stands in records that fit beside the other texts at the name, no cut of it that
+-- fits has fewer records, and their names are free.
+pub record IsShortest (want : Wanted) (limits : Limits) (zones : List Zone) (name : List (List ℕ)) (bytes : List ℕ) : Type 0 where
   pub list : List FlatTerm
   pub ends : List ℕ
   pub rows4 : List NeedRow
@@ -106,8 +109,8 @@ pub record IsShortest (want : Wanted) (zones : List Zone) (name : List (List ℕ
   pub fewest : (other : List ℕ) → CutFits want (other_text_of zones name) list other → length ends ≤ length other
   pub free : AreFree want zones (length ends)
   pub prefixes : HavePrefixes list
-  pub same : (a : Address) → IsAddress a → first list a ≡ first terms a
-  pub shortest : (other : List FlatTerm) → HavePrefixes other → ((a : Address) → IsAddress a → first other a ≡ first terms a) → length list ≤ length other
-  pub verdicts : AreVerdicts terms v4 v6
+  pub same : AllHave (says zones) limits want.domain (first list)
+  pub shortest : (other : List FlatTerm) → HavePrefixes other → AllHave (says zones) limits want.domain (first other) → length list ≤ length other
+  pub verdicts : AllHave (says zones) limits want.domain (verdict_at v4 v6)
   pub table : IsGoodTable v4 v6 rows4 rows6 sum
   pub counted : sum ≡ length list

@@ -6,6 +6,5 @@ pub mod Ended
 pub mod Ends
 pub mod Findings
 pub mod Lines
-pub mod Published
 pub mod Standing
 pub mod Zones

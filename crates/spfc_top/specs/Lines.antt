@@ -1,8 +1,14 @@
 -- The lines of refusals, which are the project's own choice.
 use Rattle.std.specs.Prelude.{ℕ, List, [], ◌∷◌, ◌++◌, codes, decimal}
+use Rattle.addr_bits.specs.declared.address.Address.{Address}
+use Rattle.addr_bits.specs.declared.address.Address.TheVariants.{V4, V6}
+use Rattle.addr_bits.specs.Ip4.{ip4_text}
+use Rattle.addr_bits.specs.Ip6.{ip6_text}
 use Rattle.dns_name.specs.Printed.{printed_name}
 use Rattle.master_reader.specs.declared.fault.Kind.{Kind}
 use Rattle.master_reader.specs.declared.fault.Kind.TheVariants as kinds
+use Rattle.spf_model.specs.declared.outcome.Outcome.{Outcome}
+use Rattle.spf_model.specs.Lines.{cause_text}
 
 -- two parts and a line feed
 abbrev pub line_of : List ℕ → List ℕ → List ℕ
@@ -48,11 +54,17 @@ too_many_line origin = line_of (codes "too many records ") (printed_name origin)
 abbrev pub alias_and_other_line : (origin name : List (List ℕ)) → List ℕ
 alias_and_other_line origin name = line_of (codes "alias and other ") (spaced (printed_name origin) (printed_name name))
 
-abbrev pub not_yet_line : List ℕ → List ℕ
-not_yet_line domain = line_of (codes "not yet ") domain
-
 abbrev pub too_big_line : List ℕ
 too_big_line = line_of (codes "too big") []
+
+-- RFC 1035, section 3.4.1, and RFC 4291, section 2.2: an address in its written form
+abbrev pub address_text : Address → List ℕ
+address_text (V4 a) = ip4_text a
+address_text (V6 a) = ip6_text a
+
+-- an address has no verdict, for this cause at this term
+abbrev pub refused_line : Address → Outcome → List ℕ
+refused_line address outcome = line_of (codes "refused ") (spaced (address_text address) (cause_text outcome))
 
 -- a CNAME record stands at the domain
 abbrev pub alias_line : (domain : List ℕ) → List ℕ

@@ -62,6 +62,7 @@ fn do_job<F: Files>(alloc: Global, files: &mut F, job: &Job) -> Result<Bytes, St
     match job {
         Job::Compile {
             domain,
+            limits,
             size,
             ttl,
             label,
@@ -73,7 +74,7 @@ fn do_job<F: Files>(alloc: Global, files: &mut F, job: &Job) -> Result<Bytes, St
                 ttl: *ttl,
                 label: label.as_slice(),
             };
-            compile(alloc, files, form, zones.as_slice())
+            compile(alloc, files, form, *limits, zones.as_slice())
         }
         Job::Check {
             domain,

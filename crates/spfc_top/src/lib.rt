@@ -8,12 +8,10 @@ mod form;
 mod laws;
 mod lending;
 mod needed;
-mod published;
 mod reading;
 mod stop;
 mod text;
 mod top;
-mod verdicts;
 mod writing;
 
 pub use laws::{

@@ -192,7 +192,7 @@ const TWO_ZONES: [&str; 4] = ["compile", "Example.com", "example.com=z", "NET.=y
 
 const SMALL: [&str; 5] = ["compile", "example.com", "--size", "64", "example.com=z"];
 
-const REFUSALS: [Refusal<'static>; 17] = [
+const REFUSALS: [Refusal<'static>; 14] = [
     Refusal {
         words: &WORDS,
         files: &[(
@@ -235,24 +235,6 @@ const REFUSALS: [Refusal<'static>; 17] = [
         )],
         status: 2,
         line: b"too big\n",
-    },
-    Refusal {
-        words: &WORDS,
-        files: &[(b"z", b"@ IN TXT \"v=spf1 a -all\"\n")],
-        status: 3,
-        line: b"not yet example.com\n",
-    },
-    Refusal {
-        words: &WORDS,
-        files: &[(b"z", b"")],
-        status: 3,
-        line: b"not yet example.com\n",
-    },
-    Refusal {
-        words: &WORDS,
-        files: &[(b"z", b"@ TXT \"v=spf1 -all\"\n@ TXT \"v=spf1 ~all\"\n")],
-        status: 3,
-        line: b"not yet example.com\n",
     },
     Refusal {
         words: &WORDS,
@@ -334,6 +316,182 @@ fn try_refusal(rt: &impl Abort, alloc: Global, case: &Refusal<'_>) -> Result<(),
 fn what_has_no_output_is_refused(rt: HostRuntime) -> Result<(), Fail> {
     for case in &REFUSALS {
         try_refusal(&rt, rt.alloc(), case)?;
+    }
+    Ok(())
+}
+
+// Options and the zone of example.com, and the status and what is written first: the fragment, or the line of the refusal.
+struct Policy<'a> {
+    options: &'a [&'a str],
+    file: &'a [u8],
+    status: u8,
+    begins: &'a [u8],
+}
+
+// Three hosts that have no address, each of them a void lookup (RFC 7208, section 4.6.4).
+const THREE_VOIDS: &[u8] =
+    b"@ TXT \"v=spf1 a:h1.example.com a:h2.example.com a:h3.example.com -all\"\n";
+
+// Two hosts that take the mail of a third name (RFC 7208, section 5.4).
+const TWO_HOSTS: &[u8] =
+    b"@ TXT \"v=spf1 mx:m.example.com/24 -all\"\nm MX 10 h\nm MX 20 i\nh A 192.0.2.7\ni A 192.0.3.7\n";
+
+const POLICIES: [Policy<'static>; 21] = [
+    Policy {
+        options: &[],
+        file: b"@ TXT \"v=spf1 include:a.example.com ~all\"\na TXT \"v=spf1 ip4:192.0.2.0/24 -all\"\n",
+        status: 0,
+        begins: b"$ORIGIN example.com.\n$TTL 3600\n@ IN TXT \"v=spf1 ip4:192.0.2.0/24 ~all\"\n; row ",
+    },
+    Policy {
+        options: &[],
+        file: b"@ TXT \"v=spf1 ip4:192.0.2.0/24 redirect=b.example.com\"\nb TXT \"v=spf1 ip4:192.0.3.0/24 -all\"\n",
+        status: 0,
+        begins: b"$ORIGIN example.com.\n$TTL 3600\n@ IN TXT \"v=spf1 ip4:192.0.2.0/23 -all\"\n; row ",
+    },
+    Policy {
+        options: &[],
+        file: b"@ TXT \"v=spf1 a:h.example.com/24 -all\"\nh A 192.0.2.7\n",
+        status: 0,
+        begins: b"$ORIGIN example.com.\n$TTL 3600\n@ IN TXT \"v=spf1 ip4:192.0.2.0/24 -all\"\n; row ",
+    },
+    Policy {
+        options: &[],
+        file: TWO_HOSTS,
+        status: 0,
+        begins: b"$ORIGIN example.com.\n$TTL 3600\n@ IN TXT \"v=spf1 ip4:192.0.2.0/23 -all\"\n; row ",
+    },
+    Policy {
+        options: &[],
+        file: b"@ TXT \"v=spf1 exists:e.example.com -all\"\ne A 127.0.0.2\n",
+        status: 0,
+        begins: b"$ORIGIN example.com.\n$TTL 3600\n@ IN TXT \"v=spf1 all\"\n; fewest 1\n",
+    },
+    Policy {
+        options: &[],
+        file: b"@ IN TXT \"v=spf1 a -all\"\n",
+        status: 0,
+        begins: b"$ORIGIN example.com.\n$TTL 3600\n@ IN TXT \"v=spf1 -all\"\n; fewest 1\n",
+    },
+    Policy {
+        options: &[],
+        file: b"@ TXT \"v=spf1 include:example.com -all\"\n",
+        status: 1,
+        begins: b"refused 0.0.0.0 lookups example.com 1\n",
+    },
+    Policy {
+        options: &["--lookups", "20", "--size", "64"],
+        file: b"@ TXT \"v=spf1 ip6:::/0 include:example.com -all\"\n",
+        status: 1,
+        begins: b"refused 0.0.0.0 lookups example.com 2\n",
+    },
+    Policy {
+        options: &[],
+        file: THREE_VOIDS,
+        status: 1,
+        begins: b"refused 0.0.0.0 voids example.com 3\n",
+    },
+    Policy {
+        options: &["--ttl", "0", "--voids", "3"],
+        file: THREE_VOIDS,
+        status: 0,
+        begins: b"$ORIGIN example.com.\n$TTL 0\n@ IN TXT \"v=spf1 -all\"\n; fewest 1\n",
+    },
+    Policy {
+        options: &[],
+        file: b"",
+        status: 1,
+        begins: b"refused 0.0.0.0 norecord example.com 0\n",
+    },
+    Policy {
+        options: &[],
+        file: b"@ CNAME www\n",
+        status: 1,
+        begins: b"refused 0.0.0.0 norecord example.com 0\n",
+    },
+    Policy {
+        options: &[],
+        file: b"@ TXT \"v=spf1 -all\"\n@ TXT \"v=spf1 ~all\"\n",
+        status: 1,
+        begins: b"refused 0.0.0.0 records example.com 0\n",
+    },
+    Policy {
+        options: &[],
+        file: b"@ TXT \"v=spf1 foo -all\"\n",
+        status: 1,
+        begins: b"refused 0.0.0.0 syntax example.com 0\n",
+    },
+    Policy {
+        options: &[],
+        file: b"@ TXT \"v=spf1 include:x.example.com -all\"\n",
+        status: 1,
+        begins: b"refused 0.0.0.0 missing example.com 1\n",
+    },
+    Policy {
+        options: &[],
+        file: b"@ TXT \"v=spf1 include:spf.example.net -all\"\n",
+        status: 1,
+        begins: b"refused 0.0.0.0 outside spf.example.net 0\n",
+    },
+    Policy {
+        options: &[],
+        file: b"@ TXT \"v=spf1 exists:%{i}.e.example.com -all\"\n",
+        status: 1,
+        begins: b"refused 0.0.0.0 address example.com 1\n",
+    },
+    Policy {
+        options: &[],
+        file: b"@ TXT \"v=spf1 ip4:0.0.0.0/1 exists:%{i}.e.example.com -all\"\n",
+        status: 1,
+        begins: b"refused 128.0.0.0 address example.com 2\n",
+    },
+    Policy {
+        options: &[],
+        file: b"@ TXT \"v=spf1 ip4:0.0.0.0/0 exists:%{i}.e.example.com -all\"\n",
+        status: 1,
+        begins: b"refused :: address example.com 2\n",
+    },
+    Policy {
+        options: &[],
+        file: b"@ TXT \"v=spf1 ip4:0.0.0.0/0 ip6:::/2 exists:%{i}.e.example.com -all\"\n",
+        status: 1,
+        begins: b"refused 4000:: address example.com 3\n",
+    },
+    Policy {
+        options: &[],
+        file: b"@ TXT \"v=spf1 include:%{s}.example.net -all\"\n",
+        status: 1,
+        begins: b"refused 0.0.0.0 sender example.com 1\n",
+    },
+];
+
+fn try_policy(rt: &impl Abort, alloc: Global, case: &Policy<'_>) -> Result<(), Fail> {
+    let mut files = one_file(alloc, b"z", case.file, &[])?;
+    let mut out = sink(alloc, &[])?;
+    let mut err = sink(alloc, &[])?;
+    let mut words = words(alloc, &["compile", "example.com"])?;
+    for option in case.options {
+        words.push(String::from_str(alloc, option)?)?;
+    }
+    words.push(String::from_str(alloc, "example.com=z")?)?;
+    assert_eq!(rt;
+        run(alloc, &words, &mut files, &mut out, &mut err),
+        case.status
+    );
+    if case.status == 0 {
+        assert!(rt; out.bytes().starts_with(case.begins));
+        assert!(rt; err.bytes().is_empty());
+    } else {
+        assert_eq!(rt; err.bytes(), case.begins);
+        assert!(rt; out.bytes().is_empty());
+    }
+    Ok(())
+}
+
+#[test]
+fn policies_are_compiled_or_refused(rt: HostRuntime) -> Result<(), Fail> {
+    for case in &POLICIES {
+        try_policy(&rt, rt.alloc(), case)?;
     }
     Ok(())
 }

@@ -1,11 +1,12 @@
 //! Lines for the standard error.
 ghost use Rattle.std.specs.Prelude.{◌≡◌, ◌++◌, ◌∷◌, IfOk, OnOk};
-ghost use Rattle.spfc_top.specs.Lines.{line_of, kind_word, bad_zone_line, too_many_line, alias_and_other_line, taken_line};
+ghost use Rattle.spfc_top.specs.Lines.{line_of, kind_word, bad_zone_line, too_many_line, alias_and_other_line, address_text, refused_line, taken_line};
 
-use addr_bits::Bytes;
+use addr_bits::{Address, Bytes, write_ip4, write_ip6};
 use dns_name::Name;
 use itoa::Buffer;
 use master_reader::Kind;
+use spf_model::{Outcome, write_cause};
 use std::alloc::{AllocError, Global};
 
 /// A line of these two parts.
@@ -85,6 +86,30 @@ pub(crate) fn alias_and_other(
     tail.extend_from_slice(&origin.write_text(alloc)?)?;
     push_part(&mut tail, &name.write_text(alloc)?)?;
     line(alloc, "alias and other ", tail.as_slice())
+}
+
+// Appends an address in its written form.
+fn push_address(bytes: &mut Bytes, address: Address) -> Result<(), AllocError>
+    ensures { OnOk result (bytes.new ≡ bytes.old ++ address_text address) }
+{
+    match address {
+        Address::V4(number) => bytes.extend_from_slice(write_ip4(number).as_str().as_bytes()),
+        Address::V6(number) => bytes.extend_from_slice(write_ip6(number).as_str().as_bytes()),
+    }
+}
+
+/// The line of an address that has no verdict.
+pub(crate) fn refused_line(
+    alloc: Global,
+    address: Address,
+    outcome: &Outcome,
+) -> Result<Bytes, AllocError>
+    ensures { IfOk result (λ bytes. bytes ≡ refused_line address outcome.now) }
+{
+    let mut tail = Bytes::new(alloc);
+    push_address(&mut tail, address)?;
+    push_part(&mut tail, write_cause(alloc, outcome)?.as_slice())?;
+    line(alloc, "refused ", tail.as_slice())
 }
 
 /// The line of a record whose name is taken.

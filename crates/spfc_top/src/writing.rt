@@ -1,40 +1,39 @@
-//! Writing a shortest list as the fewest records that fit.
-ghost use Rattle.std.specs.Prelude.{◌≡◌, ℕ, List, IfOk, IfErr};
-ghost use Rattle.zone_answers.specs.Names.{other_text_of};
+//! Writing a shortest list of some verdicts as the fewest records that fit.
+ghost use Rattle.std.specs.Prelude.{IfOk, IfErr};
+ghost use Rattle.fewest_terms.specs.Leaves.{verdict_at as trie_verdict};
 ghost use Rattle.spfc_top.specs.Due.{Gives};
-ghost use Rattle.spfc_top.specs.Compiled.{TermsDue, ListDue, IsChosenCut};
-ghost use Rattle.spfc_top.specs.Answers.{StopsTerms, StopsList, IsTooBig, wanted_by};
+ghost use Rattle.spfc_top.specs.Compiled.{VerdictsDue, ListDue, IsChosenCut};
+ghost use Rattle.spfc_top.specs.Answers.{StopsVerdicts, StopsList, IsTooBig, wanted_by};
 
 use crate::form::Form;
 use crate::needed::refuse_taken;
 use crate::stop::Stop;
 use crate::text::line;
-use crate::verdicts::verdicts;
 use addr_bits::Bytes;
 use dns_name::Name;
 use fewest_terms::{Shortest, fewest};
 use record_pack::{Cut, PackFault, pack};
 use spf_grammar::FlatTerm;
 use std::alloc::Global;
+use verdict_map::VerdictTries;
 use zone_answers::Zones;
 use zone_writer::fragment;
 
-/// The fragment of a shortest list with the verdicts of the terms, which stand at the name.
-pub(crate) fn write_terms(
+/// The fragment of a shortest list with these verdicts, which the name has.
+pub(crate) fn write_verdicts(
     alloc: Global,
     zones: &Zones,
     name: &Name,
     form: Form<'_>,
-    terms: &[FlatTerm],
+    tries: &VerdictTries,
 ) -> Result<Bytes, Stop>
-    ensures done { IfOk result (λ bytes. TermsDue (wanted_by form.entry) zones.now name.now terms.now (Gives bytes)) }
-    ensures stops { IfErr result (StopsTerms (wanted_by form.entry) zones.now name.now terms.now) }
+    ensures done { IfOk result (λ bytes. VerdictsDue (wanted_by form.entry) zones.now name.now (trie_verdict 32 tries.now.v4) (trie_verdict 128 tries.now.v6) (Gives bytes)) }
+    ensures stops { IfErr result (StopsVerdicts (wanted_by form.entry) zones.now name.now tries.now.v4 tries.now.v6) }
 {
     if zones.own_alias(name) {
         let line = line(alloc, "refused alias ", form.domain)?;
         return Err(Stop::Refusal { status: 1, line });
     }
-    let tries = verdicts(alloc, terms)?;
     let found = fewest(alloc, &tries.v4, &tries.v6)?;
     write_shortest(alloc, zones, form, zones.other_text(name), &found)
 }

@@ -13,7 +13,7 @@ pub no_limits : (words : List (String Global)) → 2 ≤ length words → ((any 
     → (any : Job) → ¬ Spells (codes "check" ∷ texts words) any
 no_limits [] long none any h = absurd (omega (arith, long))
 no_limits (word ∷ []) long none any h = absurd (omega (arith, long))
-no_limits (word ∷ next ∷ words) long none (Compile domain size ttl label zones) h = absurd (two_commands h.0)
+no_limits (word ∷ next ∷ words) long none (Compile domain limits size ttl label zones) h = absurd (two_commands h.0)
   where
     two_commands : codes "check" ≡ codes "compile" → ⊥
     two_commands e = cc

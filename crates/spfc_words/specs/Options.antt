@@ -5,7 +5,7 @@ use Rattle.std.specs.Str.{str_to_ascii_lowercase}
 use Rattle.spf_macros.specs.Words.{is_label}
 use Rattle.spf_model.specs.declared.outcome.Limits.{Limits}
 use Rattle.spfc_words.specs.declared.options.Group.{Group}
-use Rattle.spfc_words.specs.declared.options.Group.TheVariants.{Reading, Chain}
+use Rattle.spfc_words.specs.declared.options.Group.TheVariants.{Reading, Compile}
 
 -- an option as it is written: its name, and its value as the next word
 pub record Setting : Type 0 where
@@ -55,10 +55,14 @@ pub record AreLimits (settings : List Setting) (limits : Limits) : Type 0 where
 abbrev pub is_chain_option : List ℕ → Bool
 is_chain_option word = bytes_eq word (codes "--size") || (bytes_eq word (codes "--ttl") || bytes_eq word (codes "--label"))
 
+-- the options of a policy that is compiled: those of the reading limits and of a chain of records
+abbrev pub is_compile_option : List ℕ → Bool
+is_compile_option word = is_reading_option word || is_chain_option word
+
 -- the options of a group
 abbrev pub is_option_of : Group → List ℕ → Bool
 is_option_of Reading word = is_reading_option word
-is_option_of Chain word = is_chain_option word
+is_option_of Compile word = is_compile_option word
 
 -- `_` and 0 to 60 letters, digits, hyphens and underscores, taken in lower case
 pub record IsLabelText (text label : List ℕ) : Type 0 where

@@ -10,7 +10,7 @@ use Rattle.spf_macros.specs.Words.{is_domain, is_domain_label}
 use Rattle.addr_bits.specs.Address.{SpellsAddress}
 use Rattle.addr_bits.specs.declared.address.Address.{Address}
 use Rattle.spf_model.specs.declared.outcome.Limits.{Limits}
-use Rattle.spfc_words.specs.Options.{settings_in, words_behind, is_reading_option, is_chain_option, AreLimits, AreChainOptions}
+use Rattle.spfc_words.specs.Options.{settings_in, words_behind, is_reading_option, is_compile_option, AreLimits, AreChainOptions}
 use Rattle.spfc_words.specs.declared.job.Job.{Job}
 use Rattle.spfc_words.specs.declared.job.Job.TheVariants.{Compile, Check}
 use Rattle.spfc_words.specs.declared.zone_word.ZoneWord.{ZoneWord}
@@ -56,13 +56,15 @@ pub record AreZoneWords (words : List (List ℕ)) (zones : List ZoneWord) : Type
 abbrev pub has_room : (label domain : List ℕ) → Bool
 has_room label domain = nat_le (length label + length (codes "10.") + length domain) 253
 
--- `DOMAIN CHAIN ORIGIN=FILE..`: a domain, which is taken in lower case, options of a chain of records, and zone words
-pub record IsCompiled (word : List ℕ) (words : List (List ℕ)) (domain : List ℕ) (size ttl : ℕ) (label : List ℕ) (zones : List ZoneWord) : Type 0 where
+-- `DOMAIN OPTIONS ORIGIN=FILE..`: a domain, which is taken in lower case, options of the reading limits and of a chain of
+-- records, and zone words
+pub record IsCompiled (word : List ℕ) (words : List (List ℕ)) (domain : List ℕ) (limits : Limits) (size ttl : ℕ) (label : List ℕ) (zones : List ZoneWord) : Type 0 where
   pub form : IsTrue (is_domain word)
   pub lower : domain ≡ str_to_ascii_lowercase word
-  pub options : AreChainOptions (settings_in is_chain_option words) size ttl label
+  pub reading : AreLimits (settings_in is_compile_option words) limits
+  pub options : AreChainOptions (settings_in is_compile_option words) size ttl label
   pub room : IsTrue (has_room label domain)
-  pub behind : AreZoneWords (words_behind is_chain_option words) zones
+  pub behind : AreZoneWords (words_behind is_compile_option words) zones
 
 -- `DOMAIN ADDRESS READING ORIGIN=FILE..`: a domain, an address, options of the reading limits, and zone words
 pub record IsChecked (word address_word : List ℕ) (words : List (List ℕ)) (domain : List ℕ) (address : Address) (limits : Limits) (zones : List ZoneWord) : Type 0 where
@@ -72,9 +74,9 @@ pub record IsChecked (word address_word : List ℕ) (words : List (List ℕ)) (d
   pub reading : AreLimits (settings_in is_reading_option words) limits
   pub behind : AreZoneWords (words_behind is_reading_option words) zones
 
-abbrev pub SpellsCompile : List (List ℕ) → (domain : List ℕ) → (size ttl : ℕ) → (label : List ℕ) → (zones : List ZoneWord) → Type 0
-SpellsCompile [] domain size ttl label zones = ⊥
-SpellsCompile (word ∷ words) domain size ttl label zones = IsCompiled word words domain size ttl label zones
+abbrev pub SpellsCompile : List (List ℕ) → (domain : List ℕ) → Limits → (size ttl : ℕ) → (label : List ℕ) → (zones : List ZoneWord) → Type 0
+SpellsCompile [] domain limits size ttl label zones = ⊥
+SpellsCompile (word ∷ words) domain limits size ttl label zones = IsCompiled word words domain limits size ttl label zones
 
 abbrev pub SpellsCheck : List (List ℕ) → (domain : List ℕ) → Address → Limits → (zones : List ZoneWord) → Type 0
 SpellsCheck [] domain address limits zones = ⊥
@@ -84,7 +86,7 @@ SpellsCheck (word ∷ address_word ∷ words) domain address limits zones = IsCh
 -- the words spell the job
 abbrev pub Spells : List (List ℕ) → Job → Type 0
 Spells [] job = ⊥
-Spells (command ∷ words) (Compile domain size ttl label zones) = (command ≡ codes "compile") × SpellsCompile words domain size ttl label zones
+Spells (command ∷ words) (Compile domain limits size ttl label zones) = (command ≡ codes "compile") × SpellsCompile words domain limits size ttl label zones
 Spells (command ∷ words) (Check domain address limits zones) = (command ≡ codes "check") × SpellsCheck words domain address limits zones
 
 -- words spell at most one job

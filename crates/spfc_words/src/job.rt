@@ -11,6 +11,8 @@ pub enum Job {
     Compile {
         /// The domain, in lower case and without a final dot.
         domain: Bytes,
+        /// The limits under which the zones are read.
+        limits: Limits,
         /// What a record takes is less than this, in octets (RFC 7208, section 3.4).
         size: u32,
         /// The TTL of the records, in seconds.

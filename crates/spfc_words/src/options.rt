@@ -17,8 +17,8 @@ use std::alloc::{AllocError, Global};
 pub(crate) enum Group {
     /// The limits of reading.
     Reading,
-    /// How the records of a chain are written.
-    Chain,
+    /// The limits of reading, and how the records of a chain are written.
+    Compile,
 }
 
 /// How the records of a chain are written.
@@ -37,11 +37,10 @@ const LABEL: &[u8] = b"_spf";
 
 /// The reading limits that the options in front of the words give; `None` where an option is written twice, or with
 /// another value than a number of its range.
-pub(crate) fn read_limits(words: &[String]) -> Option<Limits>
-    ensures { MatchOption result ((any : Limits) → ¬ AreLimits (settings_in options.is_reading_option (texts words.now)) any)
-        (AreLimits (settings_in options.is_reading_option (texts words.now))) }
+pub(crate) fn read_limits(group: Group, words: &[String]) -> Option<Limits>
+    ensures { MatchOption result ((any : Limits) → ¬ AreLimits (settings_in (is_option_of group) (texts words.now)) any)
+        (AreLimits (settings_in (is_option_of group) (texts words.now))) }
 {
-    let group = Group::Reading;
     let lookups = read_option(group, words, "--lookups", 10, 20, 10)?;
     let voids = read_option(group, words, "--voids", 2, 20, 2)?;
     let exchanges = read_option(group, words, "--exchanges", 10, 100, 10)?;
@@ -58,11 +57,11 @@ pub(crate) fn read_chain(
     alloc: Global,
     words: &[String],
 ) -> Result<Option<ChainOptions>, AllocError>
-    ensures { let settings = settings_in options.is_chain_option (texts words.now) in
+    ensures { let settings = settings_in options.is_compile_option (texts words.now) in
         IfOk result (λ chain. MatchOption chain ((size ttl : ℕ) (label : List ℕ) → ¬ AreChainOptions settings size ttl label)
         (λ chain. AreChainOptions settings chain.size chain.ttl chain.label)) }
 {
-    let group = Group::Chain;
+    let group = Group::Compile;
     let Some(size) = read_option(group, words, "--size", 64, 4096, 450) else {
         return Ok(None);
     };
@@ -141,11 +140,11 @@ fn read_option(
 
 // The label, as it is written, among the options in front of the words.
 fn read_label(words: &[String]) -> Option<&[u8]>
-    ensures { let values = values_of (codes "--label") (settings_in options.is_chain_option (texts words.now)) in
+    ensures { let values = values_of (codes "--label") (settings_in options.is_compile_option (texts words.now)) in
         MatchOption result ((label : List ℕ) → ¬ IsOption IsLabelText (codes "_spf") values label)
         (λ text. IsOption IsLabelText (codes "_spf") values (str_to_ascii_lowercase text.now)) }
 {
-    let Some(text) = value_of(Group::Chain, words, "--label")? else {
+    let Some(text) = value_of(Group::Compile, words, "--label")? else {
         return Some(LABEL);
     };
     let text = text.as_bytes();
@@ -168,7 +167,19 @@ fn is_option(group: Group, word: &str) -> bool
     ensures { result ≡ is_option_of group word.now }
 {
     match group {
-        Group::Reading => matches!(word, "--lookups" | "--voids" | "--exchanges"),
-        Group::Chain => matches!(word, "--size" | "--ttl" | "--label"),
+        Group::Reading => is_reading_option(word),
+        Group::Compile => is_reading_option(word) || is_chain_option(word),
     }
+}
+
+fn is_reading_option(word: &str) -> bool
+    ensures { result ≡ options.is_reading_option word.now }
+{
+    matches!(word, "--lookups" | "--voids" | "--exchanges")
+}
+
+fn is_chain_option(word: &str) -> bool
+    ensures { result ≡ options.is_chain_option word.now }
+{
+    matches!(word, "--size" | "--ttl" | "--label")
 }

@@ -31,7 +31,7 @@ pub fn read_words(alloc: Global, words: &[String]) -> Result<Option<Job>, AllocE
     }
 }
 
-// The job of a domain, options of a chain of records and zone words, which stand behind `compile`.
+// The job of a domain, options of the reading limits and of a chain of records, and zone words, which stand behind `compile`.
 fn read_compile(alloc: Global, words: &[String]) -> Result<Option<Job>, AllocError>
     ensures { IfOk result (λ job. MatchOption job
         ((any : Job) → ¬ Spells (codes "compile" ∷ texts words.now) any)
@@ -44,6 +44,9 @@ fn read_compile(alloc: Global, words: &[String]) -> Result<Option<Job>, AllocErr
     if !is_domain(domain) {
         return Ok(None);
     }
+    let Some(limits) = read_limits(Group::Compile, rest) else {
+        return Ok(None);
+    };
     let Some(ChainOptions { size, ttl, label }) = read_chain(alloc, rest)? else {
         return Ok(None);
     };
@@ -51,11 +54,12 @@ fn read_compile(alloc: Global, words: &[String]) -> Result<Option<Job>, AllocErr
     if !has_room(label.as_slice(), domain.as_slice()) {
         return Ok(None);
     }
-    let Some(zones) = read_zones(alloc, behind_options(Group::Chain, rest))? else {
+    let Some(zones) = read_zones(alloc, behind_options(Group::Compile, rest))? else {
         return Ok(None);
     };
     Ok(Some(Job::Compile {
         domain,
+        limits,
         size,
         ttl,
         label,
@@ -89,7 +93,7 @@ fn read_check(alloc: Global, words: &[String]) -> Result<Option<Job>, AllocError
     let Ok(address) = read_address(address.as_bytes()) else {
         return Ok(None);
     };
-    let Some(limits) = read_limits(rest) else {
+    let Some(limits) = read_limits(Group::Reading, rest) else {
         return Ok(None);
     };
     let Some(zones) = read_zones(alloc, behind_options(Group::Reading, rest))? else {

@@ -5,21 +5,30 @@ use std::alloc::{AllocError, Global};
 use std::process::Abort;
 use std::test::Fail;
 
-// Words that compile, and what they give: the domain, the size, the TTL and the label, and each origin as it is printed, with
-// its file.
+// Words that compile, and what they give: the domain, the limits, the size, the TTL and the label, and each origin as it is
+// printed, with its file.
 struct Case<'a> {
     words: &'a [&'a str],
     domain: &'a [u8],
+    limits: Limits,
     size: u32,
     ttl: u32,
     label: &'a [u8],
     zones: &'a [(&'a [u8], &'a [u8])],
 }
 
-const JOBS: [Case<'static>; 6] = [
+// The limits of a mail receiver (RFC 7208, section 4.6.4).
+const RECEIVERS: Limits = Limits {
+    lookups: 10,
+    voids: 2,
+    exchanges: 10,
+};
+
+const JOBS: [Case<'static>; 7] = [
     Case {
         words: &["compile", "example.com", "example.com=z"],
         domain: b"example.com",
+        limits: RECEIVERS,
         size: 450,
         ttl: 3600,
         label: b"_spf",
@@ -34,6 +43,7 @@ const JOBS: [Case<'static>; 6] = [
             ".=root",
         ],
         domain: b"example.com",
+        limits: RECEIVERS,
         size: 450,
         ttl: 3600,
         label: b"_spf",
@@ -46,6 +56,7 @@ const JOBS: [Case<'static>; 6] = [
     Case {
         words: &["compile", "_x.a-b.c1", "1=f"],
         domain: b"_x.a-b.c1",
+        limits: RECEIVERS,
         size: 450,
         ttl: 3600,
         label: b"_spf",
@@ -54,6 +65,7 @@ const JOBS: [Case<'static>; 6] = [
     Case {
         words: &["compile", "example.com", "a.b=--size", "b=z", "c=z"],
         domain: b"example.com",
+        limits: RECEIVERS,
         size: 450,
         ttl: 3600,
         label: b"_spf",
@@ -72,6 +84,7 @@ const JOBS: [Case<'static>; 6] = [
             "example.com=z",
         ],
         domain: b"example.com",
+        limits: RECEIVERS,
         size: 4096,
         ttl: 0,
         label: b"_spf-b",
@@ -90,9 +103,39 @@ const JOBS: [Case<'static>; 6] = [
             "example.com=z",
         ],
         domain: b"example.com",
+        limits: RECEIVERS,
         size: 64,
         ttl: 2_147_483_647,
         label: b"_",
+        zones: &[(b"example.com", b"z")],
+    },
+    Case {
+        words: &[
+            "compile",
+            "example.com",
+            "--voids",
+            "3",
+            "--size",
+            "1232",
+            "--exchanges",
+            "100",
+            "--label",
+            "_s",
+            "--lookups",
+            "20",
+            "--ttl",
+            "60",
+            "example.com=z",
+        ],
+        domain: b"example.com",
+        limits: Limits {
+            lookups: 20,
+            voids: 3,
+            exchanges: 100,
+        },
+        size: 1232,
+        ttl: 60,
+        label: b"_s",
         zones: &[(b"example.com", b"z")],
     },
 ];
@@ -108,11 +151,7 @@ const CHECKS: [CheckCase<'static>; 3] = [
     CheckCase {
         words: &["check", "example.com", "192.0.2.7", "example.com=z"],
         address: Address::V4(0xc000_0207),
-        limits: Limits {
-            lookups: 10,
-            voids: 2,
-            exchanges: 10,
-        },
+        limits: RECEIVERS,
     },
     CheckCase {
         words: &[
@@ -154,7 +193,7 @@ const CHECKS: [CheckCase<'static>; 3] = [
     },
 ];
 
-const NO_CHECKS: [&[&str]; 13] = [
+const NO_CHECKS: [&[&str]; 12] = [
     &["check", "example.com", "192.0.2.7"],
     &["check", "example.com", "example.com=z"],
     &["check", "example.com", "192.0.2.07", "a.b=z"],
@@ -169,10 +208,9 @@ const NO_CHECKS: [&[&str]; 13] = [
     &["check", "a.b", "::1", "a.b=z", "--voids", "2"],
     &["check", "a.b", "::1", "--size", "64", "a.b=z"],
     &["check", "a.b", "--voids", "2", "::1", "a.b=z"],
-    &["compile", "a.b", "--lookups", "11", "a.b=z"],
 ];
 
-const NO_JOBS: [&[&str]; 25] = [
+const NO_JOBS: [&[&str]; 30] = [
     &[],
     &["compile"],
     &["compile", "example.com"],
@@ -196,6 +234,13 @@ const NO_JOBS: [&[&str]; 25] = [
     &["compile", "a.b", "--label", "", "a.b=z"],
     &["compile", "a.b", "a.b=z", "--size", "64"],
     &["compile", "a.b", "--size"],
+    &["compile", "a.b", "--lookups", "9", "a.b=z"],
+    &["compile", "a.b", "--lookups", "21", "a.b=z"],
+    &[
+        "compile", "a.b", "--lookups", "11", "--size", "64", "--lookups", "11", "a.b=z",
+    ],
+    &["compile", "a.b", "--voids", "1", "a.b=z"],
+    &["compile", "a.b", "--exchanges", "101", "a.b=z"],
     &["check", "a.b", "::1", "--label", "_spf", "a.b=z"],
     &["Compile", "example.com", "example.com=z"],
 ];
@@ -225,6 +270,7 @@ fn try_job(rt: &impl Abort, alloc: Global, case: &Case<'_>) -> Result<(), Fail> 
     let Some(
         Job::Compile {
             domain,
+            limits,
             size,
             ttl,
             label,
@@ -236,6 +282,7 @@ fn try_job(rt: &impl Abort, alloc: Global, case: &Case<'_>) -> Result<(), Fail> 
         return Ok(());
     };
     assert_eq!(rt; domain.as_slice(), case.domain);
+    assert_eq!(rt; limits, case.limits);
     assert_eq!(rt; (size, ttl), (case.size, case.ttl));
     assert_eq!(rt; label.as_slice(), case.label);
     assert_eq!(rt; zones.len(), case.zones.len());
