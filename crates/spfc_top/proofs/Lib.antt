@@ -7,6 +7,7 @@ pub mod LendingLemmas
 pub mod OneLending
 pub mod OutcomeLemmas
 pub mod ReadingLemmas
+pub mod RecordChains
 pub mod RecordTexts
 pub mod SameVerdicts
 pub mod ShortestLemmas

@@ -77,7 +77,7 @@ terms_spelled (term ∷ terms) behind rest h g =
 
 -- ---- bytes of domains
 
-in_range : (low high b : ℕ) → is_in_range low high b ≡ true → (low ≤ b) × (b ≤ high)
+pub in_range : (low high b : ℕ) → is_in_range low high b ≡ true → (low ≤ b) × (b ≤ high)
 in_range low high b h = let parts = and_parts (nat_le low b) (nat_le b high) h in (leb-true low b parts.0, leb-true b high parts.1)
 
 -- a byte of a name of hosts, as a range
@@ -239,7 +239,7 @@ label_plain (b ∷ bs) h =
     ((omega (arith, same), omega (arith, same)), words_plain bs parts.1)
 
 -- ---- the name of a record behind the first
-next_name : (domain label : List ℕ) (k : ℕ) → record_name domain label (k + 1) ≡ (label ++ decimal (k + 1)) ++ 46 ∷ domain
+pub next_name : (domain label : List ℕ) (k : ℕ) → record_name domain label (k + 1) ≡ (label ++ decimal (k + 1)) ++ 46 ∷ domain
 next_name domain label k =
     ap (λ b. cond b domain ((label ++ decimal (k + 1)) ++ 46 ∷ domain)) (ne_eqb (k + 1) 0 (λ (e : k + 1 ≡ 0). omega (arith, e)))
 

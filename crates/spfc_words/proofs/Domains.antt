@@ -4,6 +4,7 @@ use Rattle.std.specs.List.{list_all, slice_split, onto_first}
 use Rattle.std.specs.Char.{to_ascii_lowercase}
 use Rattle.std.specs.Str.{str_to_ascii_lowercase}
 use Rattle.std.proofs.lemmas.Bool.{and_parts, leb-true, ltb-false}
+use Rattle.std.proofs.lemmas.Slice.Eq.{bytes_eq-Decides}
 use Rattle.std.proofs.lemmas.List.{length-map}
 use Rattle.std.proofs.lemmas.List.Splits.{slice_split-cons_yes, slice_split-cons_no}
 use Rattle.dns_name.specs.declared.fault.NameFault.TheVariants.{NameLong}
@@ -102,9 +103,9 @@ no_final_dot (b ∷ []) h = by (is_dot b) refl
 no_final_dot (b ∷ c ∷ text) h = ap (λ (t : List ℕ). b ∷ t) (no_final_dot (c ∷ text) (behind_next b (c ∷ text) h))
 
 -- ---- domains
--- a text of legal labels, with at most 253 characters
-legal_text : (text : List ℕ) → first_fault (slice_split is_dot text) ≡ None → length text ≤ 253 → IsOk (name_of_text text)
-legal_text text legal short = by (bytes_eq text (46 ∷ []))
+-- a text of legal labels, with at most 253 characters, writes them in lower case
+pub text_makes_name : (text : List ℕ) → first_fault (slice_split is_dot text) ≡ None → length text ≤ 253 → name_of_text text ≡ Ok (map lowercase_label (slice_split is_dot text))
+text_makes_name text legal short = by (bytes_eq text (46 ∷ [])) refl
   where
     fits : nat_lt 255 (length (wire_form (slice_split is_dot text))) ≡ false
     fits = le-ltb 255 (length (wire_form (slice_split is_dot text))) (omega (arith, wire_length text))
@@ -117,16 +118,28 @@ legal_text text legal short = by (bytes_eq text (46 ∷ []))
     whole : without_final is_dot text ≡ text
     whole = no_final_dot text (behind_legal (slice_split is_dot text) legal)
 
-    by : (t : Bool) → IsOk (cond t (Ok []) (name_of_labels (slice_split is_dot (without_final is_dot text))))
-    by true = refl
-    by false = subst (λ t. IsOk (name_of_labels (slice_split is_dot t))) (sym whole) (subst (λ r. IsOk r) (sym made) refl)
+    empty_label : first_fault (slice_split is_dot (46 ∷ [])) ≡ None → ⊥
+    empty_label h = cc
+
+    by : (t : Bool) → bytes_eq text (46 ∷ []) ≡ t → name_of_text text ≡ Ok (map lowercase_label (slice_split is_dot text))
+    by true e = absurd (empty_label (subst (λ t. first_fault (slice_split is_dot t) ≡ None) ((bytes_eq-Decides text (46 ∷ [])).0 e) legal))
+    by false e =
+        ap (λ t. cond t (Ok []) (name_of_labels (slice_split is_dot (without_final is_dot text)))) e
+        ∙ ap (λ t. name_of_labels (slice_split is_dot t)) whole ∙ made
+
+legal_text : (text : List ℕ) → first_fault (slice_split is_dot text) ≡ None → length text ≤ 253 → IsOk (name_of_text text)
+legal_text text legal short = subst (λ r. IsOk r) (sym (text_makes_name text legal short)) refl
 
 lower_short : (text : List ℕ) → length text ≤ 253 → length (str_to_ascii_lowercase text) ≤ 253
 lower_short text short = let same : length (str_to_ascii_lowercase text) ≡ length text = simp length-map in omega arith
 
+-- the labels of a domain in lower case are legal
+pub domain_is_legal : (text : List ℕ) → IsTrue (is_domain text) → first_fault (slice_split is_dot (str_to_ascii_lowercase text)) ≡ None
+domain_is_legal text h =
+    let parts = and_parts _ _ h in
+    ap first_fault (split_lower text) ∙ legal_labels (slice_split is_dot text) (and_parts _ _ (and_parts _ _ parts.0).0).1
+
 pub domain_is_name : (text : List ℕ) → IsTrue (is_domain text) → IsOk (name_of_text (str_to_ascii_lowercase text))
 domain_is_name text h =
-    let parts = and_parts _ _ h in
-    let legal : list_all is_domain_label (slice_split is_dot text) ≡ true = (and_parts _ _ (and_parts _ _ parts.0).0).1 in
-    let short : length text ≤ 253 = leb-true (length text) 253 parts.1 in
-    legal_text (str_to_ascii_lowercase text) (ap first_fault (split_lower text) ∙ legal_labels (slice_split is_dot text) legal) (lower_short text short)
+    let short : length text ≤ 253 = leb-true (length text) 253 (and_parts _ _ h).1 in
+    legal_text (str_to_ascii_lowercase text) (domain_is_legal text h) (lower_short text short)
