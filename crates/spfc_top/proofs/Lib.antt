@@ -9,4 +9,9 @@ pub mod ReadingLemmas
 pub mod RecordTexts
 pub mod SameVerdicts
 pub mod ShortestLemmas
+pub mod StandingAlone
+pub mod StandingFound
+pub mod StandingLists
+pub mod StandingRecords
+pub mod StandingTexts
 pub mod ZonesLemmas
