@@ -12,6 +12,7 @@ pub mod ShortestLemmas
 pub mod StandingAlone
 pub mod StandingFound
 pub mod StandingLists
+pub mod StandingPatched
 pub mod StandingRecords
 pub mod StandingTexts
 pub mod ZonesLemmas
