@@ -11,4 +11,10 @@ pub mod RecordChains
 pub mod RecordTexts
 pub mod SameVerdicts
 pub mod ShortestLemmas
+pub mod StandingAlone
+pub mod StandingFound
+pub mod StandingLists
+pub mod StandingPatched
+pub mod StandingRecords
+pub mod StandingTexts
 pub mod ZonesLemmas
