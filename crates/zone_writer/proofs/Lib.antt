@@ -1,3 +1,5 @@
+pub mod Domains
 pub mod Lines
+pub mod Tables
 pub mod Records
 pub mod Strings
