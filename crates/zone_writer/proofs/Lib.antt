@@ -1,5 +1,6 @@
 pub mod Domains
 pub mod Lines
+pub mod Names
 pub mod Tables
 pub mod Records
 pub mod Strings
