@@ -2,5 +2,6 @@ pub mod Domains
 pub mod Lines
 pub mod Names
 pub mod Tables
+pub mod Texts
 pub mod Records
 pub mod Strings
