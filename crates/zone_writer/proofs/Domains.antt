@@ -26,9 +26,9 @@ abbrev pub is_name_byte : ℕ → Bool
 is_name_byte b = is_word_byte b || is_dot b
 
 let_dig_hyp_small : (b : ℕ) → is_let_dig_hyp b ≡ true → b ≤ 122
-let_dig_hyp_small b h = elim (or_cases _ _ h) [
-  | inl g ↦ elim (or_cases _ _ g) [
-    | inl letter ↦ elim (or_cases _ _ letter) [
+let_dig_hyp_small b h = elim (or_cases (is_ascii_alphabetic b || is_ascii_digit b) (b == 45) h) [
+  | inl g ↦ elim (or_cases (is_ascii_alphabetic b) (is_ascii_digit b) g) [
+    | inl letter ↦ elim (or_cases (is_in_range 65 90 b) (is_in_range 97 122 b) letter) [
       | inl big ↦ omega (arith, (in_range 65 90 b big).1)
       | inr small ↦ (in_range 97 122 b small).1
     ]
@@ -38,8 +38,8 @@ let_dig_hyp_small b h = elim (or_cases _ _ h) [
 ]
 
 name_small : (b : ℕ) → is_name_byte b ≡ true → b ≤ 122
-name_small b h = elim (or_cases _ _ h) [
-  | inl word ↦ elim (or_cases _ _ word) [
+name_small b h = elim (or_cases (is_word_byte b) (is_dot b) h) [
+  | inl word ↦ elim (or_cases (is_let_dig_hyp b) (b == 95) word) [
     | inl g ↦ let_dig_hyp_small b g
     | inr e ↦ omega (arith, eqb-true b 95 e)
   ]

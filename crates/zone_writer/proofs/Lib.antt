@@ -1,4 +1,5 @@
 pub mod Domains
+pub mod Fragments
 pub mod Lines
 pub mod Names
 pub mod Tables

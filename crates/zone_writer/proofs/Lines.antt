@@ -1,5 +1,5 @@
 -- Lines of a master file, and the entries that they are read as.
-use Rattle.std.proofs.Common.{◌≡◌, ℕ, ◌+◌, ◌<◌, Bool, true, false, not, cond, ◌&&◌, ◌||◌, List, [], ◌∷◌, ◌++◌, length, map, filter, refl, sym, ap, ap₂, subst, ◌∙◌, arith, append_assoc, append-nil, inl, Ok, Some, None, lt-ltb}
+use Rattle.std.proofs.Common.{◌≡◌, ℕ, ◌+◌, ◌<◌, Bool, true, false, not, cond, ◌&&◌, List, [], ◌∷◌, ◌++◌, length, map, filter, refl, sym, ap, ap₂, subst, ◌∙◌, arith, append_assoc, append-nil, inl, Ok, Some, None, lt-ltb}
 use Rattle.std.specs.List.{list_all, list_any}
 use Rattle.std.proofs.lemmas.Bool.{and_parts, and_from, or_parts, not-true}
 use Rattle.std.proofs.lemmas.List.{length-map}
@@ -7,11 +7,11 @@ use Rattle.std.proofs.lemmas.List.Folds.{list_all-map}
 use Rattle.master_lex.specs.declared.entry.Entry.{Entry}
 use Rattle.master_lex.specs.declared.entry.Octet.{Octet}
 use Rattle.master_lex.specs.declared.entry.Token.{Token}
-use Rattle.master_lex.specs.Items.{Glyph, Item, bare, blank, comment, plain, quoted, octet_of, glyphs_text, items_text, tokens_of, depth_after, may_precede, is_item, is_blank, is_feed, ends_plain, is_plain_glyph, is_quoted_glyph}
+use Rattle.master_lex.specs.Items.{Glyph, Item, bare, blank, comment, plain, octet_of, glyphs_text, items_text, tokens_of, depth_after, may_precede, is_item, is_feed, ends_plain, is_plain_glyph, is_quoted_glyph}
 use Rattle.master_lex.specs.Entries.{AreEntries, Spells, has_token, lines_in, starts_blank}
 use Rattle.master_lex.proofs.Examples.{word, string}
 use Rattle.master_reader.specs.declared.record.Record.{Record}
-use Rattle.master_reader.specs.Tokens.{bytes_in, bytes_of}
+use Rattle.master_reader.specs.Tokens.{bytes_in}
 use Rattle.master_reader.specs.Entry.{Ask, Context, ask_of, context_behind}
 use Rattle.master_reader.specs.Reading.{Adds, Mean}
 use Rattle.master_reader.proofs.Once.{with_token}

@@ -1,10 +1,10 @@
 -- The names that the words of a fragment stand for.
-use Rattle.std.proofs.Common.{◌≡◌, ℕ, ◌+◌, ◌<◌, ◌≤◌, ◌^◌, Bool, true, false, not, cond, ◌&&◌, IsTrue, List, [], ◌∷◌, ◌++◌, length, map, bytes_eq, nat_lt, Ok, Err, Option, Some, None, refl, sym, ap, ap₂, subst, ◌∙◌, arith, append-nil, length-append, decimal, le-ltb}
+use Rattle.std.proofs.Common.{◌≡◌, ℕ, ◌+◌, ◌<◌, ◌≤◌, Bool, true, false, not, cond, List, [], ◌∷◌, ◌++◌, length, map, nat_lt, Ok, Err, Option, Some, None, refl, sym, ap, ap₂, subst, ◌∙◌, arith, length-append, decimal, le-ltb}
 use Rattle.std.specs.List.{list_all, slice_split, onto_first}
 use Rattle.std.specs.Char.{to_ascii_lowercase}
 use Rattle.std.specs.Fmt.{digits}
 use Rattle.std.specs.Str.{str_to_ascii_lowercase}
-use Rattle.std.proofs.lemmas.Bool.{and_parts, not-true, leb-true}
+use Rattle.std.proofs.lemmas.Bool.{and_parts, not-true}
 use Rattle.std.proofs.lemmas.Fmt.{decimal_nonempty, length-decimal-le}
 use Rattle.std.proofs.lemmas.List.{map-append}
 use Rattle.std.proofs.lemmas.List.Splits.{slice_split-cons_no}
@@ -12,13 +12,13 @@ use Rattle.dns_name.specs.declared.fault.NameFault.{NameFault}
 use Rattle.dns_name.specs.declared.fault.NameFault.TheVariants.{NameLong}
 use Rattle.dns_name.specs.Parts.{ends_so, without_final}
 use Rattle.dns_name.specs.Wire.{wire_form}
-use Rattle.dns_name.specs.Name.{IsLabel, earlier_fault, fault_or, first_fault, is_dot, label_fault, lowercase_label, name_of_labels, name_of_text}
+use Rattle.dns_name.specs.Name.{IsLabel, earlier_fault, fault_or, first_fault, is_dot, lowercase_label, name_of_labels, name_of_text}
 use Rattle.dns_name.proofs.Names.{no_fault_from_label}
 use Rattle.dns_name.proofs.Splits.{without_final_yes}
 use Rattle.spf_macros.specs.Grammar.{is_toplabel}
 use Rattle.master_lex.specs.declared.entry.Octet.{Octet}
 use Rattle.master_lex.specs.Items.{bare, octet_of}
-use Rattle.master_reader.specs.Tokens.{bytes_in, is_unescaped, name_in, name_of_units, or_bad_name}
+use Rattle.master_reader.specs.Tokens.{bytes_in, is_unescaped, name_in, or_bad_name}
 use Rattle.master_reader.proofs.Labels.{ends_so-last}
 use Rattle.master_reader.proofs.Spelling.{bytes_differ}
 use Rattle.record_pack.specs.Records.{record_name}

@@ -1,10 +1,9 @@
 -- The bytes of the texts of records, and the strings that they are cut into.
-use Rattle.std.proofs.Common.{◌≡◌, ℕ, zero, suc, ◌+◌, ◌-◌, ◌*◌, ◌<◌, ◌≤◌, ◌^◌, ◌==◌, min, Bool, true, false, not, cond, ◌&&◌, ◌||◌, IsTrue, List, [], ◌∷◌, ◌++◌, length, take, drop, map, decimal, nat_lt, refl, sym, ap, subst, ◌∙◌, arith, le-ltb, ltb-true, length-drop, length-take}
+use Rattle.std.proofs.Common.{◌≡◌, ℕ, zero, suc, ◌+◌, ◌-◌, ◌*◌, ◌<◌, ◌≤◌, ◌^◌, ◌==◌, Bool, true, false, cond, IsTrue, List, [], ◌∷◌, ◌++◌, length, take, drop, decimal, nat_lt, refl, arith, le-ltb, ltb-true, length-drop, length-take}
 use Rattle.std.specs.Prelude.{codes}
 use Rattle.std.specs.Char.{is_ascii_digit}
 use Rattle.std.specs.List.{list_all, list_any, fold}
-use Rattle.std.proofs.lemmas.Bool.{and_parts, and_from, or_from, leb-true, ltb-false}
-use Rattle.addr_bits.specs.Prefix.{Cidr}
+use Rattle.std.proofs.lemmas.Bool.{and_parts, and_from, or_from}
 use Rattle.addr_bits.specs.Ip4.{ip4_text}
 use Rattle.addr_bits.specs.Ip6.{ip6_text}
 use Rattle.addr_bits.specs.Laws.{is_address_byte}
@@ -22,7 +21,7 @@ use Rattle.spf_grammar.specs.declared.verdict.Verdict.TheVariants.{Fail, SoftFai
 use Rattle.record_pack.specs.Records.{piece, record_name, record_text, redirect_text, spaced, terms_text}
 use Rattle.master_reader.specs.Data.{is_long_text}
 use Rattle.zone_writer.specs.Fragment.{strings_of, strings_within}
-use Rattle.zone_writer.proofs.Domains.{is_name_byte, name_ends, name_passes}
+use Rattle.zone_writer.proofs.Domains.{name_ends, name_passes}
 use Rattle.zone_writer.proofs.Lines.{is_string_byte}
 
 -- ---- terms
