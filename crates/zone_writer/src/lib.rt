@@ -1,9 +1,11 @@
 //! The fragment: the zone file of a chain of flat records, with its table.
 #![tactic(auto)]
 
+mod laws;
 mod record;
 #[cfg(test)]
 mod tests;
 mod zone;
 
+pub use laws::fragment_is_read;
 pub use zone::fragment;
