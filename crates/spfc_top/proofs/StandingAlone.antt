@@ -1,5 +1,5 @@
 -- The records of a cut that fits, lent alone.
-use Rattle.std.proofs.Common.{◌≡◌, ℕ, zero, suc, ◌+◌, ◌<◌, ◌≤◌, ◌==◌, Bool, true, false, not, cond, ◌||◌, List, [], ◌∷◌, ◌++◌, length, map, filter, find, refl, sym, ap, ap₂, subst, ◌∙◌, arith, Option, None, Some, if◌then◌else◌}
+use Rattle.std.proofs.Common.{◌≡◌, ℕ, suc, ◌+◌, ◌<◌, ◌≤◌, ◌==◌, Bool, true, false, not, cond, ◌||◌, List, [], ◌∷◌, ◌++◌, length, filter, refl, sym, ap, ap₂, ◌∙◌, arith, None, Some, if◌then◌else◌}
 use Rattle.std.specs.Prelude.{decimal}
 use Rattle.std.specs.List.{list_any, AllByRecursion}
 use Rattle.std.proofs.lemmas.Bool.{false_from_ne_true}
@@ -10,7 +10,7 @@ use Rattle.master_reader.specs.declared.record.Body.TheVariants.{Txt}
 use Rattle.master_reader.specs.declared.record.Record.{Record}
 use Rattle.zone_answers.specs.Zone.{Zone}
 use Rattle.zone_answers.specs.Answers.{zone_of, or_above, bodies_at}
-use Rattle.zone_answers.specs.Lend.{AreLendable, IsBodyFit, IsLent, bodies_clash, has_clash, with_zone}
+use Rattle.zone_answers.specs.Lend.{AreLendable, IsBodyFit, bodies_clash, has_clash, with_zone}
 use Rattle.zone_answers.specs.Same.{same_name, same_record, distinct_records}
 use Rattle.zone_answers.proofs.Distinct.{all_distinct}
 use Rattle.zone_answers.proofs.Holding.{zone_here}
@@ -18,12 +18,12 @@ use Rattle.zone_answers.proofs.Lending.{count_with}
 use Rattle.zone_answers.proofs.Nodes.{same_true, same_self}
 use Rattle.spf_grammar.specs.declared.flat.FlatTerm.{FlatTerm}
 use Rattle.spf_model.specs.Run.{says}
-use Rattle.record_pack.specs.Records.{Fits, IsFittingCut, RecordsFit, pieces_from, piece, record_name, record_text}
+use Rattle.record_pack.specs.Records.{Fits, RecordsFit, pieces_from, piece, record_name, record_text}
 use Rattle.zone_writer.specs.Fragment.{is_none, strings_of}
 use Rattle.zone_writer.specs.Written.{record_owner, written_records}
-use Rattle.spfc_top.specs.Standing.{RecordsStandAlone, StandAlone}
-use Rattle.spfc_top.proofs.StandingFound.{StandsIn, holds}
-use Rattle.spfc_top.proofs.StandingLists.{all_kept, all_mapped, any_false}
+use Rattle.spfc_top.specs.Standing.{RecordsStandAlone}
+use Rattle.spfc_top.proofs.StandingFound.{holds}
+use Rattle.spfc_top.proofs.StandingLists.{all_kept, all_mapped}
 use Rattle.spfc_top.proofs.StandingRecords.{HoldAt, hold_all, longer, owner_first, owner_later, written_uncut}
 use Rattle.spfc_top.proofs.StandingTexts.{record_is_spf, text_fits}
 

@@ -1,5 +1,5 @@
 -- A record that stands at a name beside others is found there, as the one SPF text.
-use Rattle.std.proofs.Common.{◌≡◌, ℕ, suc, Bool, true, false, cond, ◌&&◌, not, List, [], ◌∷◌, ◌++◌, map, filter, filter_map, refl, sym, ap, ap₂, subst, ◌∙◌, Option, None, Some, if◌then◌else◌, append-nil}
+use Rattle.std.proofs.Common.{◌≡◌, ℕ, Bool, true, false, ◌&&◌, not, List, [], ◌∷◌, ◌++◌, map, filter, filter_map, refl, sym, ap, ap₂, ◌∙◌, Option, None, Some, if◌then◌else◌}
 use Rattle.std.specs.List.{list_any, AllByRecursion, cons_option}
 use Rattle.std.proofs.lemmas.Bool.{or_right, false_from_ne_true}
 use Rattle.std.proofs.lemmas.List.{map-append}
@@ -14,7 +14,7 @@ use Rattle.zone_answers.specs.Zone.{Zone}
 use Rattle.zone_answers.specs.declared.answer.QKind.TheVariants as kinds
 use Rattle.zone_answers.specs.declared.answer.Answer.{Answer}
 use Rattle.zone_answers.specs.declared.answer.Answer.TheVariants.{Found, Outside}
-use Rattle.zone_answers.specs.Answers.{zone_of, is_cut_off, is_delegation, is_of, target_of, bodies_at, name_exists, node_of, wildcard_of, in_zone, at_node, answer_at, answer_of, answer_of_bodies}
+use Rattle.zone_answers.specs.Answers.{zone_of, is_cut_off, is_delegation, is_of, target_of, bodies_at, name_exists, node_of, wildcard_of, in_zone, at_node, answer_at, answer_of_bodies}
 use Rattle.zone_answers.specs.Same.{same_name, same_record, distinct_records}
 use Rattle.zone_answers.proofs.Cuts.{any_also}
 use Rattle.zone_answers.proofs.Distinct.{all_distinct, record_same}

@@ -1,14 +1,13 @@
 -- The records of a chain in the zones that were read.
-use Rattle.std.proofs.Common.{◌≡◌, ℕ, ◌+◌, ◌<◌, ◌≤◌, ◌==◌, ◌≢◌, Bool, true, false, not, cond, ◌&&◌, ◌||◌, IsFalse, List, [], ◌∷◌, ◌++◌, length, map, filter, find, refl, sym, ap, subst, ◌∙◌, arith, Option, None, Some, is_some, option_map, if◌then◌else◌}
+use Rattle.std.proofs.Common.{◌≡◌, ℕ, ◌<◌, ◌≤◌, ◌==◌, ◌≢◌, Bool, true, false, not, cond, ◌&&◌, List, [], ◌∷◌, ◌++◌, length, map, filter, find, refl, sym, ap, subst, ◌∙◌, arith, Option, None, Some, is_some, option_map, if◌then◌else◌}
 use Rattle.std.specs.Prelude.{decimal}
 use Rattle.std.specs.List.{list_any, AllByRecursion}
-use Rattle.std.proofs.lemmas.Bool.{and_from, eqb-false, false_from_ne_true, or_parts, true≢false}
+use Rattle.std.proofs.lemmas.Bool.{eqb-false, false_from_ne_true, or_parts, true≢false}
 use Rattle.dns_name.specs.Name.{is_under}
 use Rattle.dns_name.proofs.Names.{parent_under, under_itself}
-use Rattle.master_reader.specs.declared.record.Body.{Body}
 use Rattle.master_reader.specs.declared.record.Record.{Record}
 use Rattle.zone_answers.specs.Zone.{Zone}
-use Rattle.zone_answers.specs.Answers.{zone_of, or_above, bodies_at, is_cut_off, is_delegation, target_of}
+use Rattle.zone_answers.specs.Answers.{zone_of, or_above, is_cut_off, is_delegation, target_of}
 use Rattle.zone_answers.specs.Names.{bodies_in, has_own_alias, has_record_under, is_taken}
 use Rattle.zone_answers.specs.Same.{same_name}
 use Rattle.zone_answers.proofs.Nodes.{same_true, same_self}
@@ -21,7 +20,7 @@ use Rattle.zone_writer.specs.Fragment.{is_none}
 use Rattle.zone_writer.specs.Written.{record_owner, written_records}
 use Rattle.spfc_top.specs.Chain.{Holds}
 use Rattle.spfc_top.specs.Standing.{RecordsStandPatched, is_holder, is_spf_record, patched, patched_zone}
-use Rattle.spfc_top.proofs.StandingFound.{IsPlain, StandsIn, cuts, holds, txt_record}
+use Rattle.spfc_top.proofs.StandingFound.{IsPlain, cuts, holds, txt_record}
 use Rattle.spfc_top.proofs.StandingLists.{all_kept, all_weaker, each_false, none_found}
 use Rattle.spfc_top.proofs.StandingRecords.{HoldAt, hold_all, owner_first, owner_later, written_uncut}
 use Rattle.spfc_top.proofs.StandingTexts.{record_is_spf}

@@ -1,4 +1,3 @@
-use Rattle.spfc_top.proofs.StandingFound.{holds}
 use Rattle.spfc_top.proofs.StandingAlone.{records_stand_alone}
 use Rattle.spfc_top.proofs.laws.records_stand_alone.Goals as goal
 
