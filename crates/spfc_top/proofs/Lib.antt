@@ -13,8 +13,10 @@ pub mod SameVerdicts
 pub mod ShortestLemmas
 pub mod StandingAlone
 pub mod StandingFound
+pub mod StandingKept
 pub mod StandingLists
 pub mod StandingPatched
 pub mod StandingRecords
 pub mod StandingTexts
+pub mod WordsLemmas
 pub mod ZonesLemmas

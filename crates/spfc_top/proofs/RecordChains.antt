@@ -29,6 +29,7 @@ use Rattle.record_pack.specs.Records.{record_name, record_text}
 use Rattle.zone_writer.specs.Fragment.{is_none}
 use Rattle.zone_writer.specs.Written.{AreChainWords, record_owner}
 use Rattle.spfc_words.proofs.Domains.{domain_is_legal, text_makes_name}
+use Rattle.spfc_words.specs.Words.{has_room}
 use Rattle.spfc_top.specs.Chain.{next_spec, next_redirect, Holds, HoldRecords, AllHavePrefixes, RecordsAreChain}
 use Rattle.spfc_top.proofs.RecordTexts.{in_range, records_spell, records_lead_on, next_name}
 
@@ -141,6 +142,13 @@ record_label domain label k words few =
 -- the name of record 10 is the longest
 ten_long : length (decimal 10) ≡ 2
 ten_long = ap length (decimal_step 10 (omega arith) (omega arith)) ∙ ap (λ ds. length (ds ++ 48 ∷ [])) (decimal_digit 1 (omega arith))
+
+-- a domain and a label with room for the number of the last record
+pub room_short : (domain label : List ℕ) → IsTrue (has_room label domain) → length (record_name domain label 10) ≤ 253
+room_short domain label room =
+    let whole : length ((label ++ decimal 10) ++ 46 ∷ domain) ≡ length label + 2 + suc (length domain) =
+        length-append (label ++ decimal 10) (46 ∷ domain) ∙ ap (λ n. n + suc (length domain)) (length-append label (decimal 10) ∙ ap (λ n. length label + n) ten_long) in
+    omega (arith, leb-true (length label + 3 + length domain) 253 room, whole)
 
 name_short : (domain label : List ℕ) (k : ℕ) → AreChainWords domain label → k + 1 ≤ 10 → length (record_name domain label (k + 1)) ≤ 253
 name_short domain label k words few =

@@ -1,5 +1,5 @@
 -- The output is a shortest one.
-use Rattle.std.proofs.Common.{◌≡◌, ℕ, List, Some, Ok, Err, refl, sym, ◌∙◌, subst}
+use Rattle.std.proofs.Common.{◌≡◌, ℕ, IsFalse, List, Some, Ok, Err, refl, sym, ◌∙◌, subst}
 use Rattle.addr_bits.specs.declared.address.Address.TheVariants.{V4, V6}
 use Rattle.addr_bits.specs.declared.address.Family.TheVariants as family
 use Rattle.spf_grammar.specs.declared.verdict.Verdict.{Verdict}
@@ -23,9 +23,13 @@ use Rattle.spfc_top.proofs.OutcomeLemmas.{one_verdict}
 use Rattle.spfc_words.specs.declared.job.Job.{Job}
 use Rattle.spfc_words.specs.declared.job.Job.TheVariants.{Compile, Check}
 use Rattle.spfc_top.specs.Due.{Refuses, Gives}
-use Rattle.zone_answers.specs.Names.{other_text_of}
+use Rattle.zone_answers.specs.Names.{has_own_alias, other_text_of}
 use Rattle.spfc_top.specs.Compiled.{Wanted, wanted, verdict_at, ListDue, too_big, taken, written, VerdictsDue, alias, packed, IsShortest}
 use Rattle.spfc_top.specs.Zones.{Contents}
+use Rattle.spfc_top.specs.Standing.{Stands}
+use Rattle.spfc_top.proofs.StandingKept.{stands}
+use Rattle.spfc_top.proofs.WordsLemmas.{AreWords, words_wanted, named_so}
+use Rattle.spfc_words.specs.Words.{Spells}
 use Rattle.spfc_top.specs.Findings.{PolicyDue, refused, kept, IsDue, IsBest}
 use Rattle.zone_answers.specs.Zone.{Zone}
 use Rattle.spfc_top.specs.Ends.{Given, IsOutput, IsBestOutput}
@@ -81,17 +85,25 @@ shortest_of : (want : Wanted) (limits : Limits) (zones : List Zone) (name : Labe
 shortest_of want limits zones name bytes v4 v6 all (alias own is) = absurd (refuses_not is)
 shortest_of want limits zones name bytes v4 v6 all (packed none due) = list_shortest want limits zones name bytes v4 v6 all due
 
-best_of_policy : (want : Wanted) (limits : Limits) (zones : List Zone) (bytes : List ℕ) → PolicyDue want limits zones (Gives bytes) → (name : Labels) × (name_of want.domain ≡ Some name) × IsShortest want limits zones name bytes
-best_of_policy want limits zones bytes (refused address outcome least is) = absurd (refuses_not is)
-best_of_policy want limits zones bytes (kept name v4 v6 named all due) = (name, named, shortest_of want limits zones name bytes v4 v6 all due)
+-- an output has no alias at the domain
+no_alias : (want : Wanted) (zones : List Zone) (name : Labels) (bytes : List ℕ) (v4 v6 : ℕ → Verdict) → VerdictsDue want zones name v4 v6 (Gives bytes) → IsFalse (has_own_alias zones name)
+no_alias want zones name bytes v4 v6 (alias own is) = absurd (refuses_not is)
+no_alias want zones name bytes v4 v6 (packed none due) = none
 
-best_of_job : (job : Job) (held : Contents) (bytes : List ℕ) → IsDue job held (Gives bytes) → IsBest job held bytes
-best_of_job (Compile domain limits size ttl label words) held bytes (Ok zones, are, due) =
-    let best = best_of_policy (wanted domain size ttl label) limits zones bytes due in
-    (zones, best.0, are, best.1, best.2)
-best_of_job (Compile domain limits size ttl label words) held bytes (Err line, are, due) = absurd (refuses_not due)
-best_of_job (Check domain address limits words) held bytes (Ok zones, are, (outcome, gives, is)) = (zones, outcome, are, gives, gives_same is)
-best_of_job (Check domain address limits words) held bytes (Err line, are, due) = absurd (refuses_not due)
+best_of_policy : (want : Wanted) (limits : Limits) (zones : List Zone) (bytes : List ℕ) → AreWords want → PolicyDue want limits zones (Gives bytes)
+    → (name : Labels) × (name_of want.domain ≡ Some name) × (best : IsShortest want limits zones name bytes) × Stands want zones name best.list best.ends bytes
+best_of_policy want limits zones bytes words (refused address outcome least is) = absurd (refuses_not is)
+best_of_policy want limits zones bytes words (kept name v4 v6 named all due) =
+    let best = shortest_of want limits zones name bytes v4 v6 all due in
+    (name, named, best, stands want limits zones name bytes words.chain words.small words.lasting named (named_so want.domain name named) (no_alias want zones name bytes v4 v6 due) best)
+
+best_of_job : (words : List (List ℕ)) (job : Job) (held : Contents) (bytes : List ℕ) → Spells words job → IsDue job held (Gives bytes) → IsBest job held bytes
+best_of_job words (Compile domain limits size ttl label zone_words) held bytes is (Ok zones, are, due) =
+    let best = best_of_policy (wanted domain size ttl label) limits zones bytes (words_wanted words domain limits size ttl label zone_words is) due in
+    (zones, best.0, are, best.1, best.2, best.3)
+best_of_job words (Compile domain limits size ttl label zone_words) held bytes is (Err line, are, due) = absurd (refuses_not due)
+best_of_job words (Check domain address limits zone_words) held bytes is (Ok zones, are, (outcome, gives, line)) = (zones, outcome, are, gives, gives_same line)
+best_of_job words (Check domain address limits zone_words) held bytes is (Err line, are, due) = absurd (refuses_not due)
 
 pub best_output : (g : Given) (bytes : List ℕ) → IsOutput g bytes → IsBestOutput g bytes
-best_output g bytes is = record { job = is.job; is_job = is.is_job; is_best = λ t. best_of_job is.job g.held bytes (is.is_due t) }
+best_output g bytes is = record { job = is.job; is_job = is.is_job; is_best = λ t. best_of_job g.words is.job g.held bytes is.is_job (is.is_due t) }

@@ -134,7 +134,7 @@ alone_at domain label name lists k terms behind below one =
     })
 
 pub records_stand_alone : RecordsStandAlone
-records_stand_alone domain label size others list ends name words named small cut = record {
+records_stand_alone domain label size others list ends name small cut = record {
   lendable = lendable_from domain label size others list name 0 0 ends small cut.fit;
   lent = record {
     new_origin = refl;

@@ -1,21 +1,18 @@
 -- What the written bytes say where they stand.
-use Rattle.std.proofs.Common.{◌≡◌, ℕ, zero, suc, ◌+◌, ◌-◌, ◌<◌, ◌≤◌, Bool, true, false, cond, IsTrue, IsFalse, Ok, Err, Result, List, [], ◌∷◌, ◌++◌, length, take, drop, refl, sym, ap, subst, ◌∙◌, arith, append-nil, take-append-drop, Option, Some, None}
+use Rattle.std.proofs.Common.{◌≡◌, ℕ, zero, suc, ◌+◌, ◌-◌, ◌<◌, ◌≤◌, Bool, true, false, cond, IsTrue, IsFalse, Ok, Err, Result, List, [], ◌∷◌, ◌++◌, length, take, drop, refl, sym, ap, subst, ◌∙◌, arith, take-append-drop, Option, Some, None}
+use Rattle.std.proofs.lemmas.List.{drop-drop}
 use Rattle.addr_bits.specs.Address.{IsAddress}
 use Rattle.addr_bits.specs.declared.address.Address.{Address}
 use Rattle.addr_bits.specs.declared.address.Address.TheVariants.{V4}
 use Rattle.dns_name.specs.Name.{name_of_text}
-use Rattle.master_reader.specs.declared.record.Record.{Record}
 use Rattle.zone_answers.specs.declared.answer.Answer.{Answer}
 use Rattle.zone_answers.specs.declared.answer.Answer.TheVariants as answer
 use Rattle.zone_answers.specs.declared.answer.QKind.TheVariants as kind
 use Rattle.zone_answers.specs.Answers.{answer_of, answer_within, at_node, in_zone, is_cut_off, node_of, zone_of}
 use Rattle.master_reader.specs.Reading.{Reads}
-use Rattle.zone_answers.specs.Lend.{AreLendable, AreZones, with_zone}
+
 use Rattle.zone_answers.specs.Names.{has_own_alias, is_taken, other_text_of}
-use Rattle.zone_answers.specs.Same.{distinct_records}
 use Rattle.zone_answers.specs.Zone.{Zone}
-use Rattle.zone_answers.proofs.Lending.{zones_more}
-use Rattle.zone_answers.proofs.Reading.{read_lendable}
 use Rattle.spf_grammar.specs.Flat.{first}
 use Rattle.spf_grammar.specs.Families.{HavePrefixes}
 use Rattle.spf_grammar.specs.declared.flat.FlatTerm.{FlatTerm}
@@ -34,41 +31,13 @@ use Rattle.spf_model.proofs.Chains.{chains_give_first}
 use Rattle.record_pack.specs.Records.{IsCut, IsFittingCut, RiseTo, piece, pieces_from, record_name}
 use Rattle.zone_writer.specs.Written.{AreChainWords, record_owner, written_records}
 use Rattle.zone_writer.proofs.Fragments.{fragment_is_read}
-use Rattle.spfc_words.specs.declared.zone_word.ZoneWord.{ZoneWord}
 use Rattle.spfc_top.specs.Chain.{AllHavePrefixes, HoldRecords}
 use Rattle.spfc_top.specs.Compiled.{Wanted, AreFree, is_name_taken, IsShortest}
 use Rattle.spfc_top.specs.Standing.{HoldsName, patched, records_of, StandAlone, Stands}
-use Rattle.spfc_top.specs.Zones.{Contents, FileDue, no_file, long_file, bad_zone, read, LendDue, refused, lent, WordDue, ZoneWordsDue}
-use Rattle.spfc_top.proofs.ZonesLemmas.{ok_not, ok_twice}
+use Rattle.spfc_top.proofs.OutcomeLemmas.{some_once}
 use Rattle.spfc_top.proofs.RecordChains.{next_named, records_are_chain}
 use Rattle.spfc_top.proofs.StandingAlone.{records_stand_alone}
 use Rattle.spfc_top.proofs.StandingPatched.{records_stand_patched}
-
--- ---- zones that were lent
-lent_zones : (zones more : List Zone) (origin : List (List ℕ)) (records : List Record) (found : Result (List Zone) (List ℕ)) → AreZones zones
-    → AreLendable origin records → LendDue zones origin records found → found ≡ Ok more → AreZones more
-lent_zones zones more origin records found are lendable (refused why line is what due) e = absurd (ok_not (sym e ∙ due))
-lent_zones zones more origin records found are lendable (lent is due) e =
-    zones_more zones more (record { origin = origin; records = distinct_records records }) origin records are is.new_origin lendable is.room refl (ok_twice e due)
-
-read_records : (held : Option (List ℕ)) (word : ZoneWord) (records : List Record) (found : Result (List Record) (List ℕ)) → FileDue held word found → found ≡ Ok records → AreLendable word.origin records
-read_records held word records found (no_file none due) e = absurd (ok_not (sym e ∙ due))
-read_records held word records found (long_file contents is long due) e = absurd (ok_not (sym e ∙ due))
-read_records held word records found (bad_zone contents line kind is short faults due) e = absurd (ok_not (sym e ∙ due))
-read_records held word records found (read contents others is short reads due) e =
-    read_lendable word.origin contents records (subst (λ rs. Reads word.origin contents rs) (ok_twice due e) reads)
-
-word_zones : (held : Contents) (zones more : List Zone) (word : ZoneWord) → AreZones zones → WordDue held zones word (Ok more) → AreZones more
-word_zones held zones more word are (Ok records, file, lending) = lent_zones zones more word.origin records (Ok more) are (read_records (held word.file) word records (Ok records) file refl) lending refl
-word_zones held zones more word are (Err line, file, lending) = absurd (ok_not lending)
-
-pub zones_are : (held : Contents) (zones more : List Zone) (words : List ZoneWord) → AreZones zones → ZoneWordsDue held zones words (Ok more) → AreZones more
-zones_are held zones more [] are due = subst AreZones (ok_twice refl (sym due)) are
-zones_are held zones more (word ∷ words) are (Ok mid, first, due) = zones_are held mid more words (word_zones held zones mid word are first) due
-zones_are held zones more (word ∷ words) are (Err line, first, due) = absurd (ok_not due)
-
-pub no_zones : AreZones []
-no_zones = record { origins = tt; lendable = tt; distinct = tt; room = omega arith }
 
 -- ---- the zone that holds the domain, where each address has a verdict
 
@@ -98,7 +67,7 @@ held_name zones (label ∷ next ∷ labels) counts after go verdict ends =
 given_name : (zones : List Zone) (limits : Limits) (domain : List ℕ) (name : Labels) (a : Address) (verdict : Verdict) → name_of domain ≡ Some name → Gives (says zones) limits domain a (Is verdict) → HoldsName zones name
 unfolding Rattle.spf_model.specs.Check.check_host
 given_name zones limits domain name a verdict named (other, after, is, ends) =
-    held_name zones name _ after _ verdict (subst (λ n. EndsWith (says zones) (check_host limits a domain n) (Is verdict) after) (some_twice is named) ends)
+    held_name zones name _ after _ verdict (subst (λ n. EndsWith (says zones) (check_host limits a domain n) (Is verdict) after) (some_once is named) ends)
 
 pub holds_name : (zones : List Zone) (limits : Limits) (domain : List ℕ) (name : Labels) (verdict_of : Address → Verdict) → name_of domain ≡ Some name → AllHave (says zones) limits domain verdict_of → HoldsName zones name
 holds_name zones limits domain name verdict_of named all = given_name zones limits domain name (V4 0) (verdict_of (V4 0)) named (all (V4 0) (omega arith))
@@ -123,9 +92,16 @@ pieces_length : (list : List FlatTerm) (from : ℕ) (ends : List ℕ) → length
 pieces_length list from [] = refl
 pieces_length list from (to ∷ ends) = ap suc (pieces_length list to ends)
 
+drop_all : (list : List FlatTerm) → drop (length list) list ≡ []
+drop_all [] = refl
+drop_all (term ∷ list) = drop_all list
+
+drop_again : (list : List FlatTerm) (from to : ℕ) → from ≤ to → drop to list ≡ drop (to - from) (drop from list)
+drop_again list from to h = sym (drop-drop (to - from) from list ∙ ap (λ n. drop n list) (omega (arith, h)))
+
 -- all pieces are the list
 pieces_terms : (list : List FlatTerm) (from : ℕ) (ends : List ℕ) → RiseTo from (length list) ends → all_terms (pieces_from list from ends) ≡ drop from list
-pieces_terms list from [] h = sym (ap (λ n. drop n list) h ∙ drop-all list)
+pieces_terms list from [] h = sym (ap (λ n. drop n list) h ∙ drop_all list)
 pieces_terms list from (to ∷ ends) h =
     ap (λ ts. take (to - from) (drop from list) ++ ts) (pieces_terms list to ends h.2 ∙ drop_again list from to h.0) ∙ take-append-drop (to - from) (drop from list)
 
@@ -162,16 +138,16 @@ free_owner want zones name records words named few free (suc k) behind within =
     one = omega arith
 
 pub stands : (want : Wanted) (limits : Limits) (zones : List Zone) (name : Labels) (bytes : List ℕ) → AreChainWords want.domain want.label → want.size ≤ 4096 → want.ttl ≤ 2147483647
-    → AreZones zones → name_of want.domain ≡ Some name → name_of_text want.domain ≡ Ok name → IsFalse (has_own_alias zones name)
+    → name_of want.domain ≡ Some name → name_of_text want.domain ≡ Ok name → IsFalse (has_own_alias zones name)
     → (best : IsShortest want limits zones name bytes) → Stands want zones name best.list best.ends bytes
-stands want limits zones name bytes words small lasting are is named no_alias best = record {
+stands want limits zones name bytes words small lasting is named no_alias best = record {
   reads = subst (λ bs. Reads name bs (records_of want name best.list best.ends)) (sym best.written)
       (fragment_is_read want.domain want.label want.ttl want.size (other_text_of zones name) best.list best.ends best.rows4 best.rows6 best.sum name words named lasting small best.prefixes best.fits);
   lendable = by_itself.lendable;
   lent = by_itself.lent;
   alone = held_gives _ want.domain want.label name best.list best.ends words named is best.prefixes best.fits.cut by_itself.hold;
   in_place = held_gives _ want.domain want.label name best.list best.ends words named is best.prefixes best.fits.cut
-      (records_stand_patched zones want.domain want.label name (pieces_from best.list 0 best.ends) are words named (omega (arith, best.fits.cut.few, many))
+      (records_stand_patched zones want.domain want.label name (pieces_from best.list 0 best.ends) (omega (arith, best.fits.cut.few, many))
       (holds_name zones limits want.domain name (first best.list) is best.same) no_alias
       (λ k behind within. free_owner want zones name (length best.ends) words named best.fits.cut.few best.free k behind (omega (arith, within, many))));
 }
@@ -180,4 +156,4 @@ stands want limits zones name bytes words small lasting are is named no_alias be
     many = pieces_length best.list 0 best.ends
 
     by_itself : StandAlone want.domain want.label name (pieces_from best.list 0 best.ends)
-    by_itself = records_stand_alone want.domain want.label want.size (other_text_of zones name) best.list best.ends name words named small best.fits
+    by_itself = records_stand_alone want.domain want.label want.size (other_text_of zones name) best.list best.ends name small best.fits

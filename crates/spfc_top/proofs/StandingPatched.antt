@@ -213,6 +213,6 @@ module _ (zones : List Zone) (domain label : List ℕ) (name : List (List ℕ)) 
           subst Stands (sym (owner_later name label k e)) (λ own. later_stands (label ++ decimal k) text own_free own (record_is_spf domain label terms k (is_none behind))) one
 
 pub records_stand_patched : RecordsStandPatched
-records_stand_patched zones domain label name lists lent words named few held no_alias free =
+records_stand_patched zones domain label name lists few held no_alias free =
     hold_all (says (patched zones name (written_records domain label name 0 lists))) domain label name lists few
     (patched_at zones domain label name lists held.zone held.holds held.no_cut no_alias free)

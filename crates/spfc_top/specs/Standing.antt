@@ -1,9 +1,8 @@
 -- Where the records of a fragment stand: alone as a zone, and in the zones that were read.
 use Rattle.std.specs.Prelude.{◌≡◌, ℕ, ◌<◌, ◌≤◌, ◌&&◌, Bool, false, not, IsFalse, List, [], ◌++◌, length, map, filter, Ok, Option, Some, None, is_some, if◌then◌else◌}
-use Rattle.dns_name.specs.Name.{name_of_text}
 use Rattle.master_reader.specs.declared.record.Record.{Record}
 use Rattle.zone_answers.specs.Answers.{zone_of, is_cut_off}
-use Rattle.zone_answers.specs.Lend.{AreLendable, AreZones, IsLent, with_zone}
+use Rattle.zone_answers.specs.Lend.{AreLendable, IsLent, with_zone}
 use Rattle.zone_answers.specs.Names.{has_own_alias, is_taken}
 use Rattle.zone_answers.specs.Same.{same_name, distinct_records}
 use Rattle.zone_answers.specs.Zone.{Zone}
@@ -11,7 +10,7 @@ use Rattle.spf_grammar.specs.declared.flat.FlatTerm.{FlatTerm}
 use Rattle.spf_model.specs.Check.{spf_text_of}
 use Rattle.spf_model.specs.Run.{says}
 use Rattle.record_pack.specs.Records.{IsFittingCut, pieces_from}
-use Rattle.zone_writer.specs.Written.{AreChainWords, record_owner, written_records}
+use Rattle.zone_writer.specs.Written.{record_owner, written_records}
 use Rattle.spf_grammar.specs.Flat.{first}
 use Rattle.master_reader.specs.Reading.{Reads}
 use Rattle.spf_model.specs.Check.{receiver_limits}
@@ -44,7 +43,7 @@ pub record StandAlone (domain label : List ℕ) (name : List (List ℕ)) (lists 
 
 abbrev pub RecordsStandAlone : Type 0
 RecordsStandAlone = (domain label : List ℕ) (size others : ℕ) (list : List FlatTerm) (ends : List ℕ) (name : List (List ℕ))
-    → AreChainWords domain label → name_of_text domain ≡ Ok name → size ≤ 4096 → IsFittingCut domain label size others list ends
+    → size ≤ 4096 → IsFittingCut domain label size others list ends
     → StandAlone domain label name (pieces_from list 0 ends)
 
 -- the zone that holds the name, where the name lies below no delegation of it
@@ -56,8 +55,7 @@ pub record HoldsName (zones : List Zone) (name : List (List ℕ)) : Type 0 where
 -- in patched zones the records stand at their names, where the name has no alias and the others are free
 abbrev pub RecordsStandPatched : Type 0
 RecordsStandPatched = (zones : List Zone) (domain label : List ℕ) (name : List (List ℕ)) (lists : List (List FlatTerm))
-    → AreZones zones → AreChainWords domain label → name_of_text domain ≡ Ok name → length lists ≤ 11
-    → HoldsName zones name → IsFalse (has_own_alias zones name)
+    → length lists ≤ 11 → HoldsName zones name → IsFalse (has_own_alias zones name)
     → ((k : ℕ) → 1 ≤ k → k < length lists → IsFalse (is_taken zones (record_owner name label k)))
     → HoldRecords (says (patched zones name (written_records domain label name 0 lists))) domain label name 0 lists
 
