@@ -1,9 +1,12 @@
 -- A domain, taken in lower case, is a legal name.
-use Rattle.std.proofs.Common.{◌≡◌, ℕ, ◌+◌, ◌≤◌, ◌==◌, Bool, true, false, cond, nat_lt, IsTrue, IsOk, List, [], ◌∷◌, length, map, bytes_eq, Ok, Err, None, refl, sym, ap, subst, ◌∙◌, arith, le-ltb, ne_eqb}
+use Rattle.std.proofs.Common.{◌≡◌, ℕ, ◌+◌, ◌≤◌, ◌==◌, Bool, true, false, cond, nat_lt, IsTrue, IsOk, List, [], ◌∷◌, length, map, bytes_eq, Ok, Err, None, inl, inr, refl, sym, ap, subst, ◌∙◌, arith, le-ltb, ne_eqb}
 use Rattle.std.specs.List.{list_all, slice_split, onto_first}
-use Rattle.std.specs.Char.{to_ascii_lowercase}
+use Rattle.std.specs.Char.{is_ascii_alphabetic, to_ascii_lowercase}
+use Rattle.std.specs.Int.{is_in_range}
+use Rattle.std.specs.Prelude.{nat_le}
 use Rattle.std.specs.Str.{str_to_ascii_lowercase}
-use Rattle.std.proofs.lemmas.Bool.{and_parts, leb-true, ltb-false}
+use Rattle.std.proofs.lemmas.Bool.{and_parts, and_from, or_left, or_right, leb-true, le-leb, cases_lt, true≢false}
+use Rattle.std.proofs.lemmas.Str.Ascii.{lowercase_is}
 use Rattle.std.proofs.lemmas.Slice.Eq.{bytes_eq-Decides}
 use Rattle.std.proofs.lemmas.List.{length-map}
 use Rattle.std.proofs.lemmas.List.Splits.{slice_split-cons_yes, slice_split-cons_no}
@@ -14,24 +17,40 @@ use Rattle.dns_name.specs.Name.{IsLabel, lowercase_label, label_fault, earlier_f
 use Rattle.dns_name.proofs.Names.{parts_of, no_fault_from_label}
 use Rattle.spf_macros.specs.Words.{is_domain, is_domain_label}
 
--- ---- labels in lower case
--- lower case makes no dot, and takes none away
-dot_lower : (b : ℕ) → is_dot (to_ascii_lowercase b) ≡ is_dot b
-dot_lower b = by (nat_lt b 65) (nat_lt b 91) refl
-  where
-    by : (s t : Bool) → nat_lt b 65 ≡ s → (cond s b (cond t (b + 32) b) == 46) ≡ (b == 46)
-    by true t e = refl
-    by false false e = refl
-    by false true e =
-        let above : 65 ≤ b = ltb-false b 65 e in
-        ne_eqb (b + 32) 46 (λ (same : b + 32 ≡ 46). omega arith) ∙ sym (ne_eqb b 46 (λ (same : b ≡ 46). omega arith))
+-- ---- bytes in lower case
+upper_is_letter : (b : ℕ) → 65 ≤ b → b ≤ 90 → is_ascii_alphabetic b ≡ true
+upper_is_letter b low high = or_left (is_in_range 65 90 b) (is_in_range 97 122 b) (and_from (nat_le 65 b) (nat_le b 90) (le-leb 65 b low) (le-leb b 90 high))
 
+lower_is_letter : (b : ℕ) → 97 ≤ b → b ≤ 122 → is_ascii_alphabetic b ≡ true
+lower_is_letter b low high = or_right (is_in_range 65 90 b) (is_in_range 97 122 b) (and_from (nat_le 97 b) (nat_le b 122) (le-leb 97 b low) (le-leb b 122 high))
+
+-- a test that tells no letter from another finds in lower case what it finds
+pub test_lower : (p : ℕ → Bool) → ((a b : ℕ) → is_ascii_alphabetic a ≡ true → is_ascii_alphabetic b ≡ true → p a ≡ p b) → (b : ℕ) → p (to_ascii_lowercase b) ≡ p b
+test_lower p same b = elim (cases_lt b 65) [
+  | inl small ↦ ap p ((lowercase_is b).1 small)
+  | inr from ↦ elim (cases_lt 90 b) [
+    | inl large ↦ ap p ((lowercase_is b).2 large)
+    | inr to ↦ ap p ((lowercase_is b).0 (from, to)) ∙ same (b + 32) b (lower_is_letter (b + 32) (omega (arith, from)) (omega (arith, to))) (upper_is_letter b from to)
+  ]
+]
+
+-- lower case makes no byte that is not a letter, and takes none away
+pub byte_lower : (n : ℕ) → is_ascii_alphabetic n ≡ false → (b : ℕ) → (to_ascii_lowercase b == n) ≡ (b == n)
+byte_lower n other = test_lower (λ b. b == n) (λ a b x y. ne_eqb a n (differs a x) ∙ sym (ne_eqb b n (differs b y)))
+  where
+    differs : (a : ℕ) → is_ascii_alphabetic a ≡ true → a ≡ n → ⊥
+    differs a letter e = true≢false (sym letter ∙ ap is_ascii_alphabetic e ∙ other)
+
+dot_lower : (b : ℕ) → is_dot (to_ascii_lowercase b) ≡ is_dot b
+dot_lower b = byte_lower 46 refl b
+
+-- ---- labels in lower case
 onto_lower : (b : ℕ) (labels : List (List ℕ)) → onto_first (to_ascii_lowercase b) (map lowercase_label labels) ≡ map lowercase_label (onto_first b labels)
 onto_lower b [] = refl
 onto_lower b (label ∷ labels) = refl
 
 -- the labels of a text in lower case
-split_lower : (text : List ℕ) → slice_split is_dot (str_to_ascii_lowercase text) ≡ map lowercase_label (slice_split is_dot text)
+pub split_lower : (text : List ℕ) → slice_split is_dot (str_to_ascii_lowercase text) ≡ map lowercase_label (slice_split is_dot text)
 split_lower [] = refl
 split_lower (b ∷ text) = by (is_dot b) refl (split_lower text)
   where

@@ -1,3 +1,4 @@
+pub mod ChainWords
 pub mod Checks
 pub mod Compiles
 pub mod Families
