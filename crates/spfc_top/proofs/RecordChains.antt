@@ -147,16 +147,16 @@ ten_long = ap length (decimal_step 10 (omega arith) (omega arith)) ∙ ap (λ ds
 pub room_short : (domain label : List ℕ) → IsTrue (has_room label domain) → length (record_name domain label 10) ≤ 253
 room_short domain label room =
     let whole : length ((label ++ decimal 10) ++ 46 ∷ domain) ≡ length label + 2 + suc (length domain) =
-        length-append (label ++ decimal 10) (46 ∷ domain) ∙ ap (λ n. n + suc (length domain)) (length-append label (decimal 10) ∙ ap (λ n. length label + n) ten_long) in
+    length-append (label ++ decimal 10) (46 ∷ domain) ∙ ap (λ n. n + suc (length domain)) (length-append label (decimal 10) ∙ ap (λ n. length label + n) ten_long) in
     omega (arith, leb-true (length label + 3 + length domain) 253 room, whole)
 
 name_short : (domain label : List ℕ) (k : ℕ) → AreChainWords domain label → k + 1 ≤ 10 → length (record_name domain label (k + 1)) ≤ 253
 name_short domain label k words few =
     let r = record_label domain label (k + 1) words few in
     let here : length (record_name domain label (k + 1)) ≡ length (label ++ decimal (k + 1)) + suc (length domain) =
-        ap length (next_name domain label k) ∙ length-append (label ++ decimal (k + 1)) (46 ∷ domain) in
+    ap length (next_name domain label k) ∙ length-append (label ++ decimal (k + 1)) (46 ∷ domain) in
     let last : length ((label ++ decimal 10) ++ 46 ∷ domain) ≡ length label + 2 + suc (length domain) =
-        length-append (label ++ decimal 10) (46 ∷ domain) ∙ ap (λ n. n + suc (length domain)) (length-append label (decimal 10) ∙ ap (λ n. length label + n) ten_long) in
+    length-append (label ++ decimal 10) (46 ∷ domain) ∙ ap (λ n. n + suc (length domain)) (length-append label (decimal 10) ∙ ap (λ n. length label + n) ten_long) in
     let short : length ((label ++ decimal 10) ++ 46 ∷ domain) ≤ 253 = words.short in
     omega (arith, here, r.few, last, short)
 
@@ -216,7 +216,7 @@ chain_from zones domain label name k terms (next ∷ lists) words named few pref
   record_name domain label (k + 1),
   record_owner name label (k + 1),
   stands zones (record_owner name label k) (record_text domain label terms k false) terms (Some (next_spec domain label k)) (owner_has_two name label k (name_has_two domain label name words named)) hold.0
-  (records_spell domain label terms k false words.domain_form words.label_form (omega (arith, few)) prefixes.0),
+      (records_spell domain label terms k false words.domain_form words.label_form (omega (arith, few)) prefixes.0),
   record {
     reached = λ family. records_lead_on domain label k family (record_name domain label k) words.domain_form words.label_form (omega (arith, few)) (name_short domain label k words (omega (arith, few)));
     named = unfolded (record_name domain label (k + 1)) (record_owner name label (k + 1)) (next_named domain label name k words named (omega (arith, few)));

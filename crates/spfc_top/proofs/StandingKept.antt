@@ -10,7 +10,6 @@ use Rattle.zone_answers.specs.declared.answer.Answer.TheVariants as answer
 use Rattle.zone_answers.specs.declared.answer.QKind.TheVariants as kind
 use Rattle.zone_answers.specs.Answers.{answer_of, answer_within, at_node, in_zone, is_cut_off, node_of, zone_of}
 use Rattle.master_reader.specs.Reading.{Reads}
-
 use Rattle.zone_answers.specs.Names.{has_own_alias, is_taken, other_text_of}
 use Rattle.zone_answers.specs.Zone.{Zone}
 use Rattle.spf_grammar.specs.Flat.{first}

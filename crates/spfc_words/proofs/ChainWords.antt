@@ -74,9 +74,9 @@ is_domain_lower text =
     let split : slice_split is_dot (str_to_ascii_lowercase text) ≡ map lowercase_label labels = split_lower text in
     let many : length (slice_split is_dot (str_to_ascii_lowercase text)) ≡ length labels = ap length split ∙ length-map labels lowercase_label in
     let each : list_all is_domain_label (slice_split is_dot (str_to_ascii_lowercase text)) ≡ list_all is_domain_label labels =
-        ap (list_all is_domain_label) split ∙ all_lower lowercase_label is_domain_label domain_label_lower labels in
+    ap (list_all is_domain_label) split ∙ all_lower lowercase_label is_domain_label domain_label_lower labels in
     let top : is_toplabel (last_label (slice_split is_dot (str_to_ascii_lowercase text))) ≡ is_toplabel (last_label labels) =
-        ap (λ ls. is_toplabel (last_label ls)) split ∙ ap is_toplabel (last_lower labels) ∙ toplabel_lower (last_label labels) in
+    ap (λ ls. is_toplabel (last_label ls)) split ∙ ap is_toplabel (last_lower labels) ∙ toplabel_lower (last_label labels) in
     λ i. nat_le 2 (many i) && each i && top i && nat_le (length_lower text i) 253
 
 is_label_lower : (text : List ℕ) → is_label (str_to_ascii_lowercase text) ≡ is_label text

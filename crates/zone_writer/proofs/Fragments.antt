@@ -143,7 +143,7 @@ piece_on : (domain label : List ℕ) (name : List (List ℕ)) (size others : ℕ
     → k ≤ 10 → Fits domain label size others (piece list from to) k last
     → ((o : Option (List (List ℕ))) (n : ℕ) → ReadsOn name (context_at name o) n rest records)
     → (line : ℕ) → ReadsOn name (context_at name owner) line (record_line (owner_text label k) (record_text domain label (piece list from to) k last) ++ rest)
-      (record { owner = record_owner name label k; body = Txt (strings_of (record_text domain label (piece list from to) k last)) } ∷ records)
+    (record { owner = record_owner name label k; body = Txt (strings_of (record_text domain label (piece list from to) k last)) } ∷ records)
 piece_on domain label name size others list chain k from to last owner rest records few fits on line =
     let small : size ≤ 4096 = chain.small in
     let words = chain.words in
@@ -190,7 +190,7 @@ two_lines word other point feed next number records table = simp (append_assoc, 
 
 head_parts : (domain number records table : List ℕ)
     → (((((codes "$ORIGIN " ++ domain) ++ codes ".\n$TTL ") ++ number) ++ codes "\n") ++ records) ++ table
-      ≡ line_text (codes "$ORIGIN") (a_word (domain ++ 46 ∷ []) ∷ []) ++ (line_text (codes "$TTL") (a_word number ∷ []) ++ (records ++ table))
+    ≡ line_text (codes "$ORIGIN") (a_word (domain ++ 46 ∷ []) ∷ []) ++ (line_text (codes "$TTL") (a_word number ∷ []) ++ (records ++ table))
 head_parts domain number records table = two_lines (codes "$ORIGIN ") domain (46 ∷ []) (10 ∷ []) (codes "$TTL ") number records table
 
 domain_is_word : (domain : List ℕ) → DomainEnds domain → IsWord (domain ++ 46 ∷ [])
@@ -229,9 +229,9 @@ fragment_is_read domain label ttl size others list ends rows4 rows6 total name w
     let table : (o : Option (List (List ℕ))) (n : ℕ) → ReadsOn name (context_at name o) n (table_text rows4 rows6 total) [] = λ o n. table_on name (context_at name o) rows4 rows6 total n in
     let most = cut.cut.few in
     let whole =
-        subst (λ (t : List ℕ). ReadsOn name (context_at name None) 1 t (written_records domain label name 0 (pieces_from list 0 ends))) (sym (head_parts domain (decimal ttl) (record_lines domain label 0 (pieces_from list 0 ends)) (table_text rows4 rows6 total)))
-        (origin_on domain name 1 _ _ (domain_ends domain words.domain_form) e
-        (λ m. ttl_on name ttl m _ _ few (records_on domain label name size others list chain 0 0 ends (table_text rows4 rows6 total) (omega (arith, most)) cut.fit table None))) in
+    subst (λ (t : List ℕ). ReadsOn name (context_at name None) 1 t (written_records domain label name 0 (pieces_from list 0 ends))) (sym (head_parts domain (decimal ttl) (record_lines domain label 0 (pieces_from list 0 ends)) (table_text rows4 rows6 total)))
+    (origin_on domain name 1 _ _ (domain_ends domain words.domain_form) e
+    (λ m. ttl_on name ttl m _ _ few (records_on domain label name size others list chain 0 0 ends (table_text rows4 rows6 total) (omega (arith, most)) cut.fit table None))) in
     record {
       entries = whole.entries;
       last = whole.last;

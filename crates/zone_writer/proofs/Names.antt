@@ -172,5 +172,5 @@ owner_read domain label name k words e few =
     ∙ ap₂ (λ (t : Bool) (text : List ℕ). or_bad_name (name_of_labels (labels_at name t (slice_split is_dot text)))) (no_dot_ends owner undotted) (no_dot_final owner undotted)
     ∙ ap (λ (labels : List (List ℕ)). or_bad_name (name_of_labels (labels ++ name))) (no_dot_split owner undotted)
     ∙ ap or_bad_name
-      (named owner name (omega (arith, sizes.some), sizes.few) lower (subst (λ (ls : List (List ℕ)). first_fault ls ≡ None) same m.legal) (ap (map lowercase_label) (sym same) ∙ m.lower)
-      (omega (arith, length-append owner (wire_form name), wire, sizes.short)))
+    (named owner name (omega (arith, sizes.some), sizes.few) lower (subst (λ (ls : List (List ℕ)). first_fault ls ≡ None) same m.legal) (ap (map lowercase_label) (sym same) ∙ m.lower)
+    (omega (arith, length-append owner (wire_form name), wire, sizes.short)))
