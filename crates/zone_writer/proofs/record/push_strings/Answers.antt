@@ -1,4 +1,4 @@
-use Rattle.std.proofs.Common.{ap, ◌++◌, flat_map}
+use Rattle.std.proofs.Common.{◌++◌, flat_map}
 use Rattle.std.proofs.lemmas.Result.{on_ok_weaker}
 use Rattle.zone_writer.specs.Fragment.{quoted, strings_of}
 use Rattle.zone_writer.proofs.Strings.{lacks_all, lacks_less, lacks_none}
