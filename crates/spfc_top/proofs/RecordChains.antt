@@ -1,36 +1,31 @@
 -- Records that stand at their names are a chain.
-use Rattle.std.proofs.Common.{◌≡◌, ℕ, suc, ◌+◌, ◌<◌, ◌≤◌, ◌==◌, Bool, true, false, cond, ◌&&◌, IsTrue, Ok, Err, Result, List, [], ◌∷◌, ◌++◌, length, map, refl, sym, ap, subst, ◌∙◌, arith, append_assoc, Option, Some, None, ne_eqb, length-append, ap₂, true≢false}
-use Rattle.std.specs.Prelude.{nat_le, nat_lt, decimal, codes}
+use Rattle.std.proofs.Common.{◌≡◌, ℕ, suc, ◌+◌, ◌<◌, ◌≤◌, ◌==◌, Bool, true, false, cond, ◌&&◌, IsTrue, Ok, Err, Result, List, [], ◌∷◌, ◌++◌, length, map, refl, sym, ap, subst, ◌∙◌, arith, Option, Some, None, ne_eqb, length-append, ap₂, true≢false}
+use Rattle.std.specs.Prelude.{nat_le, decimal}
 use Rattle.std.specs.List.{list_all, slice_split, All}
 use Rattle.std.specs.Char.{to_ascii_lowercase, is_ascii_digit}
-use Rattle.std.specs.Str.{str_to_ascii_lowercase}
 use Rattle.std.proofs.lemmas.Bool.{and_parts, and_from, or_left, or_right, leb-true}
 use Rattle.std.proofs.lemmas.Str.Ascii.{lowercase_is}
 use Rattle.std.proofs.lemmas.Fmt.{decimal_digit, decimal_step, length-decimal-le}
 use Rattle.std.proofs.lemmas.List.{map-append}
 use Rattle.std.proofs.lemmas.List.Elements.{All-nil, All-cons}
 use Rattle.std.proofs.lemmas.List.Splits.{slice_split_at}
-use Rattle.addr_bits.specs.declared.address.Family.{Family}
 use Rattle.dns_name.proofs.Names.{no_fault_from_label}
 use Rattle.dns_name.specs.declared.fault.NameFault.{NameFault}
-use Rattle.dns_name.specs.Name.{name_of_text, is_dot, first_fault, label_fault, lowercase_label, earlier_fault}
+use Rattle.dns_name.specs.Name.{name_of_text, is_dot, first_fault, lowercase_label, earlier_fault}
 use Rattle.spf_macros.specs.Words.{is_domain, is_domain_label, is_label, is_word_byte, last_label}
 use Rattle.spf_macros.specs.declared.piece.Piece.{Piece}
 use Rattle.spf_macros.specs.Grammar.{is_toplabel}
 use Rattle.spf_grammar.proofs.Numbers.{decimal_ascii}
 use Rattle.spf_grammar.specs.Grammar.{SpellsPolicy}
-use Rattle.spf_grammar.specs.Families.{HavePrefixes}
 use Rattle.spf_grammar.specs.declared.flat.FlatTerm.{FlatTerm}
-use Rattle.spf_grammar.specs.declared.policy.Policy.{Policy}
-use Rattle.spf_model.specs.Chains.{directives_of, redirect_terms, IsChain, IsFlatRecord, LeadsOn, StandsAt}
+use Rattle.spf_model.specs.Chains.{directives_of, redirect_terms, IsChain, StandsAt}
 use Rattle.spf_model.specs.Judging.{name_of, legal}
 use Rattle.spf_model.specs.Run.{Answering}
 use Rattle.record_pack.specs.Records.{record_name, record_text}
-use Rattle.zone_writer.specs.Fragment.{is_none}
 use Rattle.zone_writer.specs.Written.{AreChainWords, record_owner}
 use Rattle.spfc_words.proofs.Domains.{domain_is_legal, text_makes_name}
 use Rattle.spfc_words.specs.Words.{has_room}
-use Rattle.spfc_top.specs.Chain.{next_spec, next_redirect, Holds, HoldRecords, AllHavePrefixes, RecordsAreChain}
+use Rattle.spfc_top.specs.Chain.{next_spec, Holds, HoldRecords, AllHavePrefixes, RecordsAreChain}
 use Rattle.spfc_top.proofs.RecordTexts.{in_range, records_spell, records_lead_on, next_name}
 
 -- ---- the names of records

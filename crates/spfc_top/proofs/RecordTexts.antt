@@ -1,13 +1,13 @@
 -- The texts of records spell their terms and their redirects.
-use Rattle.std.proofs.Common.{◌≡◌, ℕ, suc, ◌+◌, ◌-◌, ◌<◌, ◌≤◌, ◌^◌, ◌==◌, Bool, true, false, not, cond, ◌&&◌, ◌||◌, IsTrue, ◌⊎◌, inl, inr, List, [], ◌∷◌, ◌++◌, length, map, count_by, filter, refl, sym, ap, subst, ◌∙◌, arith, append_assoc, append-nil, Option, Some, None, true≢false, ne_eqb, eqb-true}
-use Rattle.std.specs.Prelude.{codes, decimal, flat_map, nat_le, slice_index}
+use Rattle.std.proofs.Common.{◌≡◌, ℕ, ◌+◌, ◌-◌, ◌<◌, ◌≤◌, ◌^◌, ◌==◌, Bool, true, false, not, cond, ◌&&◌, ◌||◌, IsTrue, ◌⊎◌, inl, inr, List, [], ◌∷◌, ◌++◌, length, map, count_by, filter, refl, sym, ap, subst, ◌∙◌, arith, append_assoc, append-nil, Option, true≢false, ne_eqb, eqb-true}
+use Rattle.std.specs.Prelude.{codes, decimal, nat_le, slice_index}
 use Rattle.std.specs.List.{list_all, list_any, slice_split, onto_first}
 use Rattle.std.specs.Char.{is_ascii_alphabetic, is_ascii_digit}
 use Rattle.std.specs.Int.{is_in_range}
 use Rattle.std.proofs.lemmas.Bool.{and_parts, and_from, or_cases, leb-true, le-leb}
 use Rattle.std.proofs.lemmas.List.Sums.{length-filter}
 use Rattle.std.proofs.lemmas.List.Splits.{slice_split-cons_yes, slice_split-cons_no}
-use Rattle.addr_bits.specs.Prefix.{Cidr, IsCidr, cidr_of}
+use Rattle.addr_bits.specs.Prefix.{Cidr, IsCidr}
 use Rattle.addr_bits.specs.Ip4.{SpellsIp4, ip4_text}
 use Rattle.addr_bits.specs.Ip6.{SpellsIp6, ip6_text}
 use Rattle.addr_bits.specs.declared.address.Family.{Family}
@@ -15,7 +15,7 @@ use Rattle.addr_bits.proofs.Texts.{written_address}
 use Rattle.spf_macros.specs.declared.piece.Piece.{Piece}
 use Rattle.spf_macros.specs.declared.piece.Piece.TheVariants.{Literal}
 use Rattle.spf_macros.specs.declared.expansion.Expanded.TheVariants.{Out}
-use Rattle.spf_macros.specs.Expansion.{after_dots, cut_to_fit, expansion, first_short, fitted, followed_by, target, without_final_dot}
+use Rattle.spf_macros.specs.Expansion.{after_dots, cut_to_fit, expansion, first_short, fitted, followed_by, without_final_dot}
 use Rattle.spf_macros.specs.Grammar.{is_let_dig_hyp, is_literal, is_for_all, is_toplabel, SpellsDomainSpec, SpellsMacroText}
 use Rattle.spf_macros.specs.Words.{is_domain, is_domain_label, is_label, is_word_byte, last_label}
 use Rattle.spf_grammar.proofs.Numbers.{decimal_ascii}
@@ -28,10 +28,10 @@ use Rattle.spf_grammar.specs.declared.flat.Net.TheVariants as net
 use Rattle.spf_grammar.specs.declared.verdict.Verdict.{Verdict}
 use Rattle.spf_grammar.specs.declared.verdict.Verdict.TheVariants.{Fail, SoftFail, Pass, Neutral}
 use Rattle.spf_grammar.specs.declared.policy.Term.{Term}
-use Rattle.spf_grammar.specs.declared.policy.Term.TheVariants.{Directive, Redirect}
+use Rattle.spf_grammar.specs.declared.policy.Term.TheVariants.{Directive}
 use Rattle.spf_model.specs.Chains.{directives_of, mechanism_of, redirect_terms}
-use Rattle.record_pack.specs.Records.{record_name, record_text, redirect_text, spaced}
-use Rattle.spfc_top.specs.Chain.{next_spec, next_redirect, RecordsSpell, RecordsLeadOn}
+use Rattle.record_pack.specs.Records.{record_name, redirect_text, spaced}
+use Rattle.spfc_top.specs.Chain.{next_redirect, RecordsSpell, RecordsLeadOn}
 
 -- ---- flat terms
 

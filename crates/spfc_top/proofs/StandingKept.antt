@@ -1,7 +1,6 @@
 -- What the written bytes say where they stand.
-use Rattle.std.proofs.Common.{◌≡◌, ℕ, zero, suc, ◌+◌, ◌-◌, ◌<◌, ◌≤◌, Bool, true, false, cond, IsTrue, IsFalse, Ok, Err, Result, List, [], ◌∷◌, ◌++◌, length, take, drop, refl, sym, ap, subst, ◌∙◌, arith, take-append-drop, Option, Some, None}
+use Rattle.std.proofs.Common.{◌≡◌, ℕ, zero, suc, ◌+◌, ◌-◌, ◌<◌, ◌≤◌, Bool, true, false, cond, IsFalse, Ok, List, [], ◌∷◌, ◌++◌, length, take, drop, refl, sym, ap, subst, ◌∙◌, arith, take-append-drop, Option, Some, None}
 use Rattle.std.proofs.lemmas.List.{drop-drop}
-use Rattle.addr_bits.specs.Address.{IsAddress}
 use Rattle.addr_bits.specs.declared.address.Address.{Address}
 use Rattle.addr_bits.specs.declared.address.Address.TheVariants.{V4}
 use Rattle.dns_name.specs.Name.{name_of_text}
@@ -19,7 +18,6 @@ use Rattle.spf_grammar.specs.declared.policy.Term.{Term}
 use Rattle.spf_grammar.specs.declared.verdict.Verdict.{Verdict}
 use Rattle.spf_model.specs.declared.outcome.Counts.{Counts}
 use Rattle.spf_model.specs.declared.outcome.Limits.{Limits}
-use Rattle.spf_model.specs.declared.outcome.Outcome.{Outcome}
 use Rattle.spf_model.specs.declared.outcome.Outcome.TheVariants.{Is}
 use Rattle.spf_model.specs.Chains.{all_terms, IsChain, GivesFlat}
 use Rattle.spf_model.specs.Check.{check_host, receiver_limits, with_answer, with_record}
@@ -27,12 +25,12 @@ use Rattle.spf_model.specs.Judging.{Labels, name_of}
 use Rattle.spf_model.specs.Result.{AllHave, Gives}
 use Rattle.spf_model.specs.Run.{Answering, EndsWith, Run, says}
 use Rattle.spf_model.proofs.Chains.{chains_give_first}
-use Rattle.record_pack.specs.Records.{IsCut, IsFittingCut, RiseTo, piece, pieces_from, record_name}
-use Rattle.zone_writer.specs.Written.{AreChainWords, record_owner, written_records}
+use Rattle.record_pack.specs.Records.{IsCut, RiseTo, piece, pieces_from}
+use Rattle.zone_writer.specs.Written.{AreChainWords, record_owner}
 use Rattle.zone_writer.proofs.Fragments.{fragment_is_read}
 use Rattle.spfc_top.specs.Chain.{AllHavePrefixes, HoldRecords}
 use Rattle.spfc_top.specs.Compiled.{Wanted, AreFree, is_name_taken, IsShortest}
-use Rattle.spfc_top.specs.Standing.{HoldsName, patched, records_of, StandAlone, Stands}
+use Rattle.spfc_top.specs.Standing.{HoldsName, records_of, StandAlone, Stands}
 use Rattle.spfc_top.proofs.OutcomeLemmas.{some_once}
 use Rattle.spfc_top.proofs.RecordChains.{next_named, records_are_chain}
 use Rattle.spfc_top.proofs.StandingAlone.{records_stand_alone}

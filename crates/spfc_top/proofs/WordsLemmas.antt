@@ -1,5 +1,5 @@
 -- What the words of `compile` are to the records.
-use Rattle.std.proofs.Common.{◌≡◌, ℕ, ◌≤◌, List, [], ◌∷◌, Some, Ok, Err, Option, Result, refl, sym, ap, subst, ◌∙◌}
+use Rattle.std.proofs.Common.{◌≡◌, ℕ, ◌≤◌, List, [], ◌∷◌, Some, Ok, Err, Result, ap}
 use Rattle.dns_name.specs.Name.{name_of_text}
 use Rattle.dns_name.specs.declared.fault.NameFault.{NameFault}
 use Rattle.spf_model.specs.declared.outcome.Limits.{Limits}
@@ -7,8 +7,8 @@ use Rattle.spf_model.specs.Judging.{Labels, legal, name_of}
 use Rattle.zone_writer.specs.Written.{AreChainWords}
 use Rattle.spfc_words.specs.declared.job.Job.TheVariants.{Compile}
 use Rattle.spfc_words.specs.declared.zone_word.ZoneWord.{ZoneWord}
-use Rattle.spfc_words.specs.Words.{IsCompiled, Spells, has_room}
-use Rattle.spfc_words.proofs.ChainWords.{AreLowerWords, compiled_words, compiled_bounds}
+use Rattle.spfc_words.specs.Words.{IsCompiled, Spells}
+use Rattle.spfc_words.proofs.ChainWords.{compiled_words, compiled_bounds}
 use Rattle.spfc_top.specs.Compiled.{Wanted, wanted}
 use Rattle.spfc_top.proofs.RecordChains.{room_short}
 

@@ -1,5 +1,5 @@
 -- Where the records of a fragment stand: alone as a zone, and in the zones that were read.
-use Rattle.std.specs.Prelude.{◌≡◌, ℕ, ◌<◌, ◌≤◌, ◌&&◌, Bool, false, not, IsFalse, List, [], ◌++◌, length, map, filter, Ok, Option, Some, None, is_some, if◌then◌else◌}
+use Rattle.std.specs.Prelude.{◌≡◌, ℕ, ◌<◌, ◌≤◌, ◌&&◌, Bool, false, not, IsFalse, List, [], ◌++◌, length, map, filter, Option, Some, None, is_some, if◌then◌else◌}
 use Rattle.master_reader.specs.declared.record.Record.{Record}
 use Rattle.zone_answers.specs.Answers.{zone_of, is_cut_off}
 use Rattle.zone_answers.specs.Lend.{AreLendable, IsLent, with_zone}

@@ -1,10 +1,10 @@
 -- What is left of a run.
-use Rattle.std.proofs.Common.{◌≡◌, List, sym, subst, inl, inr, Contains}
+use Rattle.std.proofs.Common.{List, sym, subst, inl, inr, Contains}
 use Rattle.zone_answers.specs.declared.answer.Question.{Question}
 use Rattle.zone_answers.specs.declared.answer.Answer.{Answer}
 use Rattle.spf_model.specs.declared.outcome.Counts.{Counts}
 use Rattle.spf_model.specs.declared.outcome.Outcome.{Outcome}
-use Rattle.spf_model.specs.Run.{EndsWith, AsksFor, Run, Asks, Answering, then_do}
+use Rattle.spf_model.specs.Run.{Run, Asks, Answering, then_do}
 use Rattle.spf_model.proofs.RunLaws.{ends_split, ends_after, asks_first, asks_after, asks_split}
 use Rattle.symbolic_check.specs.Walk.{Follows}
 use Rattle.symbolic_check.specs.Laws.{FollowsTwice}

@@ -1,6 +1,6 @@
 -- The steps of a walk, for one address.
-use Rattle.std.proofs.Common.{◌≡◌, ℕ, ◌+◌, Bool, true, false, cond, List, [], ◌∷◌, refl, ap, subst, Option, Some, None}
-use Rattle.std.proofs.lemmas.Bool.{both_ways, and_parts, true≢false}
+use Rattle.std.proofs.Common.{◌≡◌, ℕ, ◌+◌, Bool, true, false, cond, List, [], ◌∷◌, refl, Option, Some, None}
+use Rattle.std.proofs.lemmas.Bool.{both_ways, and_parts}
 use Rattle.std.specs.Prelude.{nat_le}
 use Rattle.std.specs.List.{list_all}
 use Rattle.zone_answers.specs.declared.answer.Question.{Question}
@@ -14,13 +14,13 @@ use Rattle.spf_model.specs.declared.outcome.Counts.{Counts}
 use Rattle.spf_model.specs.declared.outcome.Outcome.{Outcome}
 use Rattle.spf_model.specs.declared.outcome.Outcome.TheVariants.{Is, Perm}
 use Rattle.spf_model.specs.Run.{Run, Ends, Answering}
-use Rattle.spf_model.specs.Judging.{Site, Sub, Judge, at, go_if, judge, counted, void_counted}
-use Rattle.spf_model.specs.Check.{tried, trying, unless_matched, term_after}
+use Rattle.spf_model.specs.Judging.{Site, Sub, at, go_if, judge, counted, void_counted}
+use Rattle.spf_model.specs.Check.{tried, unless_matched, term_after}
 use Rattle.spf_model.specs.Leads.{NoVerdict}
 use Rattle.symbolic_check.specs.declared.state.State.{State}
 use Rattle.symbolic_check.specs.declared.state.State.TheVariants.{Live, Decided, Failed}
 use Rattle.symbolic_check.specs.Steps.{after_lookup, after_void, after_match, after_failure, after_networks}
-use Rattle.symbolic_check.specs.Walk.{Follows, Leaves, Stretch, Moves}
+use Rattle.symbolic_check.specs.Walk.{Leaves, Moves}
 use Rattle.symbolic_check.specs.Networks.{is_network, is_row_term, network_covers, first_network}
 use Rattle.symbolic_check.proofs.Following.{follows_itself}
 use Rattle.symbolic_check.proofs.Walking.{leaves_same}

@@ -1,5 +1,5 @@
 -- Walks one after the other.
-use Rattle.std.proofs.Common.{◌≡◌, ℕ, ◌<◌, ◌^◌, List, refl, sym, subst, inl, inr, Contains, Option, Some, None, IsSomeAnd}
+use Rattle.std.proofs.Common.{◌≡◌, ℕ, List, refl, sym, subst, inl, inr, Contains, Option, Some, None, IsSomeAnd}
 use Rattle.addr_bits.specs.Prefix.{Cidr}
 use Rattle.zone_answers.specs.declared.answer.Question.{Question}
 use Rattle.prefix_trie.specs.Leaves.{value_at}
@@ -7,10 +7,10 @@ use Rattle.spf_grammar.specs.declared.verdict.Verdict.{Verdict}
 use Rattle.spf_model.specs.declared.outcome.Counts.{Counts}
 use Rattle.spf_model.specs.declared.outcome.Outcome.{Outcome}
 use Rattle.spf_model.specs.declared.outcome.Outcome.TheVariants.{Is}
-use Rattle.spf_model.specs.Run.{Run, Ends, Answering, AsksFor}
+use Rattle.spf_model.specs.Run.{Run, Ends, Answering}
 use Rattle.symbolic_check.specs.declared.state.State.{State}
 use Rattle.symbolic_check.specs.declared.state.State.TheVariants.{Live, Decided, Failed}
-use Rattle.symbolic_check.specs.Walk.{Follows, Leaves, Part, Stretch, Moves, AskedBy, Walks, then_stretch, StepsAt}
+use Rattle.symbolic_check.specs.Walk.{Follows, Leaves, Part, Stretch, Moves, Walks, then_stretch, StepsAt}
 use Rattle.symbolic_check.specs.Laws.{WalksTwice}
 use Rattle.symbolic_check.proofs.Following.{follows_itself, follows_twice, follows_more}
 

@@ -1,5 +1,5 @@
 -- The evaluation of every address, as check_host of RFC 7208 has it for each.
-use Rattle.std.specs.Prelude.{◌≡◌, ℕ, ◌<◌, ◌^◌, ◌↔◌, List, Contains, IsSomeAnd}
+use Rattle.std.specs.Prelude.{ℕ, ◌<◌, ◌^◌, ◌↔◌, List, Contains, IsSomeAnd}
 use Rattle.addr_bits.specs.Prefix.{Cidr}
 use Rattle.addr_bits.specs.declared.address.Address.TheVariants.{V4, V6}
 use Rattle.zone_answers.specs.declared.answer.Question.{Question}

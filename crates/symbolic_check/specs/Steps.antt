@@ -1,5 +1,5 @@
 -- What a step of the walk makes of what stands at one address (the project's own form).
-use Rattle.std.specs.Prelude.{ℕ, ◌+◌, Bool, true, false, nat_le, Option, Some, None, if◌then◌else◌}
+use Rattle.std.specs.Prelude.{◌+◌, Bool, true, false, nat_le, Option, Some, None, if◌then◌else◌}
 use Rattle.spf_grammar.specs.declared.verdict.Verdict.{Verdict}
 use Rattle.spf_grammar.specs.declared.verdict.Verdict.TheVariants.{Neutral}
 use Rattle.spf_model.specs.declared.outcome.Counts.{Counts}
