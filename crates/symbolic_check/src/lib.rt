@@ -10,6 +10,8 @@ mod networks;
 mod scene;
 mod state;
 mod steps;
+#[cfg(test)]
+mod tests;
 mod walk;
 
 pub use both::{Both, evaluate};
