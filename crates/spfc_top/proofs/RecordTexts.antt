@@ -1,24 +1,23 @@
 -- The texts of records spell their terms and their redirects.
-use Rattle.std.proofs.Common.{◌≡◌, ℕ, ◌+◌, ◌-◌, ◌<◌, ◌≤◌, ◌^◌, ◌==◌, Bool, true, false, not, cond, ◌&&◌, ◌||◌, IsTrue, ◌⊎◌, inl, inr, List, [], ◌∷◌, ◌++◌, length, map, count_by, filter, refl, sym, ap, subst, ◌∙◌, arith, append_assoc, append-nil, Option, true≢false, ne_eqb, eqb-true}
-use Rattle.std.specs.Prelude.{codes, decimal, nat_le, slice_index}
-use Rattle.std.specs.List.{list_all, list_any, slice_split, onto_first}
-use Rattle.std.specs.Char.{is_ascii_alphabetic, is_ascii_digit}
-use Rattle.std.specs.Int.{is_in_range}
-use Rattle.std.proofs.lemmas.Bool.{and_parts, and_from, or_cases, leb-true, le-leb}
+use Rattle.std.proofs.Common.{◌≡◌, ℕ, ◌+◌, ◌<◌, ◌≤◌, ◌^◌, ◌==◌, Bool, true, false, cond, IsTrue, inl, inr, List, [], ◌∷◌, ◌++◌, length, map, count_by, filter, refl, sym, ap, subst, ◌∙◌, arith, append_assoc, append-nil, Option, eqb-true}
+use Rattle.std.specs.Prelude.{codes, decimal}
+use Rattle.std.specs.List.{list_all}
+use Rattle.std.proofs.lemmas.Bool.{and_parts, le-leb}
+use Rattle.std.proofs.lemmas.List.Folds.{list_all-append}
 use Rattle.std.proofs.lemmas.List.Sums.{length-filter}
-use Rattle.std.proofs.lemmas.List.Splits.{slice_split-cons_yes, slice_split-cons_no}
 use Rattle.addr_bits.specs.Prefix.{Cidr, IsCidr}
 use Rattle.addr_bits.specs.Ip4.{SpellsIp4, ip4_text}
 use Rattle.addr_bits.specs.Ip6.{SpellsIp6, ip6_text}
 use Rattle.addr_bits.specs.declared.address.Family.{Family}
 use Rattle.addr_bits.proofs.Texts.{written_address}
+use Rattle.dns_name.specs.Name.{is_dot}
+use Rattle.dns_name.specs.Parts.{without_final}
 use Rattle.spf_macros.specs.declared.piece.Piece.{Piece}
 use Rattle.spf_macros.specs.declared.piece.Piece.TheVariants.{Literal}
 use Rattle.spf_macros.specs.declared.expansion.Expanded.TheVariants.{Out}
 use Rattle.spf_macros.specs.Expansion.{after_dots, cut_to_fit, expansion, first_short, fitted, followed_by, without_final_dot}
-use Rattle.spf_macros.specs.Grammar.{is_let_dig_hyp, is_literal, is_for_all, is_toplabel, SpellsDomainSpec, SpellsMacroText}
-use Rattle.spf_macros.specs.Words.{is_domain, is_domain_label, is_label, is_word_byte, last_label}
-use Rattle.spf_grammar.proofs.Numbers.{decimal_ascii}
+use Rattle.spf_macros.specs.Grammar.{is_literal, is_for_all, SpellsDomainSpec, SpellsMacroText}
+use Rattle.spf_macros.specs.Words.{is_domain, is_label}
 use Rattle.spf_grammar.specs.Families.{HasPrefix, HavePrefixes}
 use Rattle.spf_grammar.specs.Grammar.{SpellsLen, SpellsMechanism, SpellsNetwork, SpellsQualifier, SpellsTerm, SpellsTerms, is_redirect, is_exp}
 use Rattle.spf_grammar.specs.Written.{written_flat, written_len, written_net, written_qualifier}
@@ -31,6 +30,7 @@ use Rattle.spf_grammar.specs.declared.policy.Term.{Term}
 use Rattle.spf_grammar.specs.declared.policy.Term.TheVariants.{Directive}
 use Rattle.spf_model.specs.Chains.{directives_of, mechanism_of, redirect_terms}
 use Rattle.record_pack.specs.Records.{record_name, redirect_text, spaced}
+use Rattle.zone_writer.proofs.Domains.{DomainEnds, is_name_byte, name_ends, name_passes, no_final_dot}
 use Rattle.spfc_top.specs.Chain.{next_redirect, RecordsSpell, RecordsLeadOn}
 
 -- ---- flat terms
@@ -75,54 +75,14 @@ terms_spelled [] behind rest h g = g
 terms_spelled (term ∷ terms) behind rest h g =
     ([], written_flat term, spaced terms ++ rest, refl, flat_spelled term h.0, terms_spelled terms behind rest h.1 g, ap (λ xs. 32 ∷ xs) (append_assoc (written_flat term) (spaced terms) rest))
 
--- ---- bytes of domains
-
-pub in_range : (low high b : ℕ) → is_in_range low high b ≡ true → (low ≤ b) × (b ≤ high)
-in_range low high b h = let parts = and_parts (nat_le low b) (nat_le b high) h in (leb-true low b parts.0, leb-true b high parts.1)
-
--- a byte of a name of hosts, as a range
-abbrev pub IsPlainByte : ℕ → Type 0
-IsPlainByte b = (45 ≤ b) × (b ≤ 122)
-
-let_dig_hyp_plain : (b : ℕ) → is_let_dig_hyp b ≡ true → IsPlainByte b
-let_dig_hyp_plain b h = elim (or_cases _ _ h) [
-  | inl g ↦ elim (or_cases _ _ g) [
-    | inl letter ↦ elim (or_cases _ _ letter) [
-      | inl big ↦ let r = in_range 65 90 b big in (omega (arith, r.0), omega (arith, r.1))
-      | inr small ↦ let r = in_range 97 122 b small in (omega (arith, r.0), r.1)
-    ]
-    | inr digit ↦ let r = in_range 48 57 b digit in (omega (arith, r.0), omega (arith, r.1))
-  ]
-  | inr e ↦ let same = eqb-true b 45 e in (omega (arith, same), omega (arith, same))
-]
-
-word_plain : (b : ℕ) → is_word_byte b ≡ true → IsPlainByte b
-word_plain b h = elim (or_cases _ _ h) [
-  | inl g ↦ let_dig_hyp_plain b g
-  | inr e ↦ let same = eqb-true b 95 e in (omega (arith, same), omega (arith, same))
-]
-
--- all bytes are plain
-abbrev pub ArePlain : List ℕ → Type 0
-ArePlain [] = Unit {0}
-ArePlain (b ∷ bs) = IsPlainByte b × ArePlain bs
-
-plain_append : (xs ys : List ℕ) → ArePlain xs → ArePlain ys → ArePlain (xs ++ ys)
-plain_append [] ys h g = g
-plain_append (x ∷ xs) ys h g = (h.0, plain_append xs ys h.1 g)
-
-words_plain : (bs : List ℕ) → list_all is_word_byte bs ≡ true → ArePlain bs
-words_plain [] h = tt
-words_plain (b ∷ bs) h = let parts = and_parts (is_word_byte b) (list_all is_word_byte bs) h in (word_plain b parts.0, words_plain bs parts.1)
-
 -- ---- literals
 
-literal_plain : (b : ℕ) → IsPlainByte b → is_literal b ≡ true
-literal_plain b h = and_from _ _ (and_from _ _ (le-leb 33 b (omega (arith, h.0))) (le-leb b 126 (omega (arith, h.1)))) (ap not (ne_eqb b 37 (λ (e : b ≡ 37). omega (arith, h.0, e))))
-
-literals_spelled : (bs : List ℕ) → ArePlain bs → SpellsMacroText bs (map Literal bs)
-literals_spelled [] h = refl
-literals_spelled (b ∷ bs) h = (b ∷ [], bs, (literal_plain b h.0, refl), literals_spelled bs h.1, refl)
+literals_spelled : (bs : List ℕ) → list_all is_name_byte bs ≡ true → SpellsMacroText bs (map Literal bs)
+literals_spelled bs h = each bs (name_passes is_literal refl bs h)
+  where
+    each : (bs : List ℕ) → list_all is_literal bs ≡ true → SpellsMacroText bs (map Literal bs)
+    each [] h = refl
+    each (b ∷ bs) h = let parts = and_parts (is_literal b) (list_all is_literal bs) h in (b ∷ [], bs, (parts.0, refl), each bs parts.1, refl)
 
 literals_for_all : (bs : List ℕ) → list_all is_for_all (map Literal bs) ≡ true
 literals_for_all [] = refl
@@ -136,126 +96,10 @@ literals_expand : (family : Family) (at bs : List ℕ) → expansion family at (
 literals_expand family at [] = refl
 literals_expand family at (b ∷ bs) = ap (followed_by (Out (b ∷ []))) (literals_expand family at bs)
 
--- ---- the last label of a domain
+-- ---- domains
 
-abbrev is_dot_byte : ℕ → Bool
-is_dot_byte b = b == 46
-
--- a text with no dot, or one that ends in a dot and its last label
-abbrev pub EndsInLabel : List ℕ → Type 0
-EndsInLabel text =
-    (slice_split is_dot_byte text ≡ text ∷ [])
-    ⊎ ((front label next : List ℕ) × (labels : List (List ℕ)) × (slice_split is_dot_byte text ≡ label ∷ next ∷ labels) × (text ≡ front ++ 46 ∷ last_label (next ∷ labels)))
-
-ends_in_label : (text : List ℕ) → EndsInLabel text
-ends_in_label [] = inl refl
-ends_in_label (b ∷ bs) = by (b == 46) refl (ends_in_label bs)
-  where
-    by : (t : Bool) → (b == 46) ≡ t → EndsInLabel bs → EndsInLabel (b ∷ bs)
-    by true e (inl h) = inr ([], [], bs, [], slice_split-cons_yes is_dot_byte b bs e ∙ ap (λ ls. [] ∷ ls) h, ap (λ x. x ∷ bs) (eqb-true b 46 e))
-    by true e (inr h) = inr (b ∷ h.0, [], h.1, h.2 ∷ h.3, slice_split-cons_yes is_dot_byte b bs e ∙ ap (λ ls. [] ∷ ls) h.4, ap (λ xs. b ∷ xs) h.5)
-    by false e (inl h) = inl (slice_split-cons_no is_dot_byte b bs e ∙ ap (onto_first b) h)
-    by false e (inr h) = inr (b ∷ h.0, b ∷ h.1, h.2, h.3, slice_split-cons_no is_dot_byte b bs e ∙ ap (onto_first b) h.4, ap (λ xs. b ∷ xs) h.5)
-
--- the bytes of a text whose labels have plain bytes
-onto_plain : (b : ℕ) (labels : List (List ℕ)) → list_all (list_all is_word_byte) (onto_first b labels) ≡ true → (labels ≡ [] → ⊥) → (is_word_byte b ≡ true) × (list_all (list_all is_word_byte) labels ≡ true)
-onto_plain b [] h some = absurd (some refl)
-onto_plain b (label ∷ labels) h some =
-    let parts = and_parts (list_all is_word_byte (b ∷ label)) (list_all (list_all is_word_byte) labels) h in
-    let inner = and_parts (is_word_byte b) (list_all is_word_byte label) parts.0 in
-    (inner.0, and_from _ _ inner.1 parts.1)
-
-split_some : (text : List ℕ) → slice_split is_dot_byte text ≡ [] → ⊥
-split_some text e = elim (ends_in_label text) [
-  | inl h ↦ cons_nil (sym h ∙ e)
-  | inr h ↦ cons_nil (sym h.4 ∙ e)
-]
-  where
-    cons_nil : {l : List ℕ} {ls : List (List ℕ)} → (l ∷ ls) ≡ [] → ⊥
-    cons_nil e = cc
-
-labels_plain : (text : List ℕ) → list_all (list_all is_word_byte) (slice_split is_dot_byte text) ≡ true → ArePlain text
-labels_plain [] h = tt
-labels_plain (b ∷ bs) h = by (b == 46) refl (labels_plain bs)
-  where
-    by : (t : Bool) → (b == 46) ≡ t → (list_all (list_all is_word_byte) (slice_split is_dot_byte bs) ≡ true → ArePlain bs) → ArePlain (b ∷ bs)
-    by true e below =
-        let same = eqb-true b 46 e in
-        ((omega (arith, same), omega (arith, same)), below (subst (λ ls. list_all (list_all is_word_byte) ls ≡ true) (slice_split-cons_yes is_dot_byte b bs e) h))
-    by false e below =
-        let parts = onto_plain b (slice_split is_dot_byte bs) (subst (λ ls. list_all (list_all is_word_byte) ls ≡ true) (slice_split-cons_no is_dot_byte b bs e) h) (split_some bs) in
-        (word_plain b parts.0, below parts.1)
-
-word_labels : (labels : List (List ℕ)) → list_all is_domain_label labels ≡ true → list_all (list_all is_word_byte) labels ≡ true
-word_labels [] h = refl
-word_labels (label ∷ labels) h =
-    let parts = and_parts (is_domain_label label) (list_all is_domain_label labels) h in
-    let heads = and_parts (nat_le 1 (length label) && nat_le (length label) 63 && list_all is_word_byte label) (not (slice_index label 0 == 45)) parts.0 in
-    let bytes = and_parts (nat_le 1 (length label) && nat_le (length label) 63) (list_all is_word_byte label) heads.0 in
-    and_from (list_all is_word_byte label) (list_all (list_all is_word_byte) labels) bytes.1 (word_labels labels parts.1)
-
--- what a domain is: bytes, a dot and a toplabel
-pub record DomainEnds (domain : List ℕ) : Type 0 where
-  pub front : List ℕ
-  pub top : List ℕ
-  pub whole : domain ≡ front ++ 46 ∷ top
-  pub toplabel : is_toplabel top ≡ true
-  pub plain : ArePlain domain
-
-domain_ends : (domain : List ℕ) → IsTrue (is_domain domain) → DomainEnds domain
-domain_ends domain h =
-    let labels = slice_split is_dot_byte domain in
-    let parts = and_parts (nat_le 2 (length labels) && list_all is_domain_label labels && is_toplabel (last_label labels)) (nat_le (length domain) 253) h in
-    let tops = and_parts (nat_le 2 (length labels) && list_all is_domain_label labels) (is_toplabel (last_label labels)) parts.0 in
-    let sizes = and_parts (nat_le 2 (length labels)) (list_all is_domain_label labels) tops.0 in
-    by (leb-true 2 (length (slice_split is_dot_byte domain)) sizes.0) tops.1 (labels_plain domain (word_labels (slice_split is_dot_byte domain) sizes.1)) (ends_in_label domain)
-  where
-    by : 2 ≤ length (slice_split is_dot_byte domain) → is_toplabel (last_label (slice_split is_dot_byte domain)) ≡ true → ArePlain domain → EndsInLabel domain → DomainEnds domain
-    by two top plain (inl e) = absurd (omega (arith, subst (λ ls. 2 ≤ length ls) e two))
-    by two top plain (inr e) = record {
-      front = e.0;
-      top = last_label (e.2 ∷ e.3);
-      whole = e.5;
-      toplabel = subst (λ ls. is_toplabel (last_label ls) ≡ true) e.4 top;
-      plain = plain;
-    }
-
-from_digits : (bs : List ℕ) → list_all is_ascii_digit bs ≡ true → ArePlain bs
-from_digits [] h = tt
-from_digits (b ∷ bs) h =
-    let parts = and_parts (is_ascii_digit b) (list_all is_ascii_digit bs) h in
-    let r = in_range 48 57 b parts.0 in
-    ((omega (arith, r.0), omega (arith, r.1)), from_digits bs parts.1)
-
-digits_plain : (n : ℕ) → n ≤ 11 → ArePlain (decimal n)
-digits_plain n few = from_digits (decimal n) (decimal_ascii n (omega (arith, few)))
-
-label_plain : (label : List ℕ) → IsTrue (is_label label) → ArePlain label
-label_plain [] h = tt
-label_plain (b ∷ bs) h =
-    let parts = and_parts _ _ h in
-    let start = and_parts _ _ parts.0 in
-    let same = eqb-true b 95 start.0 in
-    ((omega (arith, same), omega (arith, same)), words_plain bs parts.1)
-
--- ---- the name of a record behind the first
-pub next_name : (domain label : List ℕ) (k : ℕ) → record_name domain label (k + 1) ≡ (label ++ decimal (k + 1)) ++ 46 ∷ domain
-next_name domain label k =
-    ap (λ b. cond b domain ((label ++ decimal (k + 1)) ++ 46 ∷ domain)) (ne_eqb (k + 1) 0 (λ (e : k + 1 ≡ 0). omega (arith, e)))
-
-name_ends : (domain label : List ℕ) (k : ℕ) → IsTrue (is_domain domain) → IsTrue (is_label label) → k ≤ 10 → DomainEnds (record_name domain label (k + 1))
-name_ends domain label k h g few = let d = domain_ends domain h in record {
-  front = (label ++ decimal (k + 1)) ++ 46 ∷ d.front;
-  top = d.top;
-  whole = next_name domain label k ∙ ap (λ t. (label ++ decimal (k + 1)) ++ 46 ∷ t) d.whole ∙ sym (append_assoc (label ++ decimal (k + 1)) (46 ∷ d.front) (46 ∷ d.top));
-  toplabel = d.toplabel;
-  plain = subst ArePlain (sym (next_name domain label k)) (plain_append (label ++ decimal (k + 1)) (46 ∷ domain) (plain_append label (decimal (k + 1)) (label_plain label g) (digits_plain (k + 1) (omega (arith, few))))
-      ((omega arith, omega arith), d.plain));
-}
-
-plain_front : (xs ys : List ℕ) → ArePlain (xs ++ ys) → ArePlain xs
-plain_front [] ys h = tt
-plain_front (x ∷ xs) ys h = (h.0, plain_front xs ys h.1)
+name_front : (xs ys : List ℕ) → list_all is_name_byte (xs ++ ys) ≡ true → list_all is_name_byte xs ≡ true
+name_front xs ys h = (and_parts (list_all is_name_byte xs) (list_all is_name_byte ys) (sym (list_all-append is_name_byte xs ys) ∙ h)).0
 
 spec_spelled : (text : List ℕ) → DomainEnds text → SpellsDomainSpec false text (map Literal text)
 spec_spelled text d = record {
@@ -263,7 +107,7 @@ spec_spelled text d = record {
   end = 46 ∷ d.top;
   begins = map Literal d.front;
   ends = map Literal (46 ∷ d.top);
-  first = literals_spelled d.front (plain_front d.front (46 ∷ d.top) (subst ArePlain d.whole d.plain));
+  first = literals_spelled d.front (name_front d.front (46 ∷ d.top) (subst (λ t. list_all is_name_byte t ≡ true) d.whole d.bytes));
   last = inl (d.top, [], d.toplabel, inl refl, ap (λ t. 46 ∷ t) (sym (append-nil d.top)), refl);
   letters = literals_for_all text;
   whole = d.whole;
@@ -312,28 +156,11 @@ records_spell domain label terms k last h g few prefixes = record {
     none false = omega arith
 
 -- ---- where a redirect leads
-not_dots : (bs : List ℕ) → list_all is_let_dig_hyp bs ≡ true → (b : ℕ) → is_let_dig_hyp b ≡ true → without_final_dot (b ∷ bs) ≡ b ∷ bs
-not_dots [] h b g = ap (λ t. cond t [] (b ∷ [])) (ne_eqb b 46 (λ (e : b ≡ 46). true≢false (sym (subst (λ x. is_let_dig_hyp x ≡ true) e g))))
-not_dots (c ∷ bs) h b g = let parts = and_parts (is_let_dig_hyp c) (list_all is_let_dig_hyp bs) h in ap (λ t. b ∷ t) (not_dots bs parts.1 c parts.0)
-
-dot_behind : (xs : List ℕ) (y z : ℕ) (zs : List ℕ) → without_final_dot (z ∷ zs) ≡ z ∷ zs → without_final_dot (xs ++ y ∷ z ∷ zs) ≡ xs ++ y ∷ z ∷ zs
-dot_behind [] y z zs h = ap (λ t. y ∷ t) h
-dot_behind (x ∷ []) y z zs h = ap (λ t. x ∷ y ∷ t) h
-dot_behind (x ∷ w ∷ xs) y z zs h = ap (λ t. x ∷ t) (dot_behind (w ∷ xs) y z zs h)
-
-toplabel_bytes : (top : List ℕ) → is_toplabel top ≡ true → list_all is_let_dig_hyp top ≡ true
-toplabel_bytes top h =
-    let front = and_parts (list_all is_let_dig_hyp top && not (slice_index top 0 == 45) && not (slice_index top (length top - 1) == 45)) (list_any (λ b. is_ascii_alphabetic b || b == 45) top) h in
-    let heads = and_parts (list_all is_let_dig_hyp top && not (slice_index top 0 == 45)) (not (slice_index top (length top - 1) == 45)) front.0 in
-    (and_parts (list_all is_let_dig_hyp top) (not (slice_index top 0 == 45)) heads.0).0
-
-no_final_dot : (text : List ℕ) → DomainEnds text → without_final_dot text ≡ text
-no_final_dot text d = subst (λ t. without_final_dot t ≡ t) (sym d.whole) (by d.top d.toplabel)
-  where
-    by : (top : List ℕ) → is_toplabel top ≡ true → without_final_dot (d.front ++ 46 ∷ top) ≡ d.front ++ 46 ∷ top
-    by [] h = absurd (true≢false (sym h))
-    by (b ∷ bs) h = let parts = and_parts (is_let_dig_hyp b) (list_all is_let_dig_hyp bs) (toplabel_bytes (b ∷ bs) h) in
-        dot_behind d.front 46 b bs (not_dots bs parts.1 b parts.0)
+-- both crates' words take the same final dot away
+same_final : (text : List ℕ) → without_final_dot text ≡ without_final is_dot text
+same_final [] = refl
+same_final (b ∷ []) = refl
+same_final (b ∷ c ∷ text) = ap (λ (t : List ℕ). b ∷ t) (same_final (c ∷ text))
 
 short_enough : (text : List ℕ) (others : List (List ℕ)) → length text ≤ 253 → first_short text others ≡ text
 short_enough text [] h = refl
@@ -343,5 +170,5 @@ pub records_lead_on : RecordsLeadOn
 records_lead_on domain label k family at h g few short =
     let next = record_name domain label (k + 1) in
     ap fitted (literals_expand family at next)
-    ∙ ap (λ t. Out (cut_to_fit t)) (no_final_dot next (name_ends domain label k h g few))
+    ∙ ap (λ t. Out (cut_to_fit t)) (same_final next ∙ no_final_dot next (name_ends domain label k h g few))
     ∙ ap Out (short_enough next (after_dots next) short)

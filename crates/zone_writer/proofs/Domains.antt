@@ -18,7 +18,7 @@ use Rattle.record_pack.specs.Records.{record_name}
 
 -- ---- bytes
 
-in_range : (low high b : ℕ) → is_in_range low high b ≡ true → (low ≤ b) × (b ≤ high)
+pub in_range : (low high b : ℕ) → is_in_range low high b ≡ true → (low ≤ b) × (b ≤ high)
 in_range low high b h = let parts = and_parts (nat_le low b) (nat_le b high) h in (leb-true low b parts.0, leb-true b high parts.1)
 
 -- a byte of a domain
