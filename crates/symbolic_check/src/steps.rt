@@ -34,7 +34,7 @@ pub(crate) fn count_lookups<W: Width>(
         alloc,
         states,
         states,
-        |state, _| state.after_lookup(limits, place),
+        |state, _| state.after_lookup(alloc, limits, place),
     )
 }
 
@@ -52,7 +52,7 @@ pub(crate) fn count_voids<W: Width>(
         alloc,
         states,
         states,
-        |state, _| state.after_void(limits, place, void),
+        |state, _| state.after_void(alloc, limits, place, void),
     )
 }
 
@@ -68,7 +68,7 @@ pub(crate) fn fail<W: Width>(
         alloc,
         states,
         states,
-        |state, _| state.after_failure(outcome),
+        |state, _| state.after_failure(alloc, outcome),
     )
 }
 
@@ -144,7 +144,7 @@ pub(crate) fn use_target<W: Width>(
         alloc,
         states,
         inner,
-        |state, after| state.after_target(after, place, purpose),
+        |state, after| state.after_target(alloc, after, place, purpose),
     )
 }
 
