@@ -149,12 +149,7 @@ impl State {
     }
 
     /// What a term makes of this at the end of the record that it asked for (RFC 7208, sections 5.2 and 6.1).
-    fn used(
-        &self,
-        alloc: Global,
-        place: &Place,
-        purpose: Purpose,
-    ) -> Result<State, AllocError>
+    fn used(&self, alloc: Global, place: &Place, purpose: Purpose) -> Result<State, AllocError>
         ensures { IfOk result (λ state. state ≡ step.from_target place.now purpose self.now) }
     {
         match self {
