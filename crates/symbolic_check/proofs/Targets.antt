@@ -1,21 +1,28 @@
 -- What a term makes of the record that it asks for.
-use Rattle.std.proofs.Common.{◌≡◌, ℕ, Bool, true, false, cond, List, refl, sym, ap, subst, inl, inr, Option, Some, None, IsSomeAnd}
+use Rattle.std.proofs.Common.{◌≡◌, ℕ, ◌+◌, Bool, true, false, cond, List, refl, sym, ap, subst, inl, inr, Option, Some, None, IsSomeAnd}
 use Rattle.std.proofs.lemmas.Bool.{true≢false}
+use Rattle.std.specs.Prelude.{nat_le}
 use Rattle.addr_bits.specs.Prefix.{Cidr}
 use Rattle.addr_bits.specs.declared.address.Address.{Address}
 use Rattle.addr_bits.proofs.Texts.{one_address}
 use Rattle.zone_answers.specs.declared.answer.Question.{Question}
 use Rattle.prefix_trie.specs.Leaves.{value_at}
+use Rattle.spf_macros.specs.declared.piece.Piece.{Piece}
+use Rattle.spf_macros.specs.declared.expansion.Expanded.{Expanded}
+use Rattle.spf_macros.specs.declared.expansion.Expanded.TheVariants.{Out, Needs}
+use Rattle.spf_macros.specs.Expansion.{target}
 use Rattle.spf_grammar.specs.declared.verdict.Verdict.{Verdict}
 use Rattle.spf_grammar.specs.declared.verdict.Verdict.TheVariants.{Pass, Neutral}
 use Rattle.spf_grammar.proofs.OnePolicy.{one_policy}
+use Rattle.spf_model.specs.declared.outcome.Cause.{Cause}
 use Rattle.spf_model.specs.declared.outcome.Cause.TheVariants as cause
+use Rattle.spf_model.specs.declared.outcome.Place.{Place}
 use Rattle.spf_model.specs.declared.outcome.Counts.{Counts}
 use Rattle.spf_model.specs.declared.outcome.Outcome.{Outcome}
 use Rattle.spf_model.specs.declared.outcome.Outcome.TheVariants.{Nothing, Is, Perm, Temp, Unsettled}
 use Rattle.spf_model.specs.Run.{Run, Ends, Answering, then_do}
-use Rattle.spf_model.specs.Judging.{Site, at, is_pass, judged_by}
-use Rattle.spf_model.specs.Check.{unless_matched}
+use Rattle.spf_model.specs.Judging.{Labels, Site, Sub, at, family_of, is_pass, go_if, name_of, with_text, with_target, with_name, with_domain, with_verdict, judged_by}
+use Rattle.spf_model.specs.Check.{check, unless_matched}
 use Rattle.spf_model.specs.Leads.{NoVerdict}
 use Rattle.spf_model.proofs.RunLaws.{asks_first, one_end}
 use Rattle.symbolic_check.specs.declared.state.State.{State}
@@ -26,9 +33,9 @@ use Rattle.symbolic_check.specs.Steps.{entered, used, from_target, after_target,
 use Rattle.symbolic_check.specs.Walk.{Follows, Leaves, Stretch, Moves, Walks, StepsAt, StepsWith}
 use Rattle.symbolic_check.specs.declared.scene.Scene.{Scene}
 use Rattle.symbolic_check.specs.Settling.{site_at}
-use Rattle.symbolic_check.specs.Scenes.{goes_on, judged_stretch}
+use Rattle.symbolic_check.specs.Scenes.{goes_on, reached_stretch, target_stretch}
 use Rattle.symbolic_check.proofs.Following.{follows_itself, follows_twice, follows_within}
-use Rattle.symbolic_check.proofs.Walking.{leaves_twice}
+use Rattle.symbolic_check.proofs.Walking.{leaves_twice, walks_alike}
 
 -- the run of a record, and then what a term makes of it
 abbrev judged : Site → ℕ → Purpose → (Counts → Run) → Stretch
@@ -71,6 +78,37 @@ failure_used zones asked site t purpose (Nothing place) go c none = (tt, follows
 failure_used zones asked site t purpose (Perm cause place) go c none = (tt, follows_itself zones asked (Ends (Perm cause place) c))
 failure_used zones asked site t purpose (Temp cause place) go c none = (tt, follows_itself zones asked (Ends (Temp cause place) c))
 failure_used zones asked site t purpose (Unsettled cause place) go c none = (tt, follows_itself zones asked (Ends (Unsettled cause place) c))
+
+-- what a term makes of its record's run is its own run, by each step before the record
+limit_judged : (site : Site) (t : ℕ) (go : Verdict → Counts → Run) (cause : Cause) (place : Place) (test : Bool) (counts : Counts) (run next : Counts → Run)
+    → then_do (run counts) (judged_by site t go) ≡ next counts
+    → then_do (go_if test (Perm cause place) counts run) (judged_by site t go) ≡ go_if test (Perm cause place) counts next
+limit_judged site t go cause place true counts run next same = same
+limit_judged site t go cause place false counts run next same = refl
+
+text_judged : (site : Site) (t : ℕ) (go : Verdict → Counts → Run) (counts : Counts) (expanded : Expanded) (run next : List ℕ → Run)
+    → ((text : List ℕ) → then_do (run text) (judged_by site t go) ≡ next text)
+    → then_do (with_text site t counts expanded run) (judged_by site t go) ≡ with_text site t counts expanded next
+text_judged site t go counts (Out text) run next same = same text
+text_judged site t go counts (Needs need) run next same = refl
+
+name_judged : (site : Site) (t : ℕ) (go : Verdict → Counts → Run) (cause : Cause) (place : Place) (counts : Counts) (found : Option Labels) (run next : Labels → Run)
+    → ((name : Labels) → then_do (run name) (judged_by site t go) ≡ next name)
+    → then_do (with_name (Perm cause place) counts found run) (judged_by site t go) ≡ with_name (Perm cause place) counts found next
+name_judged site t go cause place counts None run next same = refl
+name_judged site t go cause place counts (Some name) run next same = same name
+
+target_judged : (site : Site) (sub : Sub) (t : ℕ) (spec : List Piece) (counts : Counts) (go : Verdict → Counts → Run)
+    → then_do (with_domain site t spec counts sub) (judged_by site t go) ≡ with_verdict site sub t spec counts go
+target_judged site sub t spec counts go =
+    let more : Counts = record counts { lookups = counts.lookups + 1 } in
+    limit_judged site t go cause.Lookups (at site t) (nat_le more.lookups site.limits.lookups) more
+    (λ c. with_target site t c (Some spec) (λ text. with_name (Perm cause.Missing (at site t)) c (name_of text) (λ name. sub text name c)))
+    (λ c. with_target site t c (Some spec) (λ text. with_name (Perm cause.Missing (at site t)) c (name_of text) (λ name. then_do (sub text name c) (judged_by site t go))))
+    (text_judged site t go more (target (family_of site.address) site.domain spec)
+    (λ text. with_name (Perm cause.Missing (at site t)) more (name_of text) (λ name. sub text name more))
+    (λ text. with_name (Perm cause.Missing (at site t)) more (name_of text) (λ name. then_do (sub text name more) (judged_by site t go)))
+    (λ text. name_judged site t go cause.Missing (at site t) more (name_of text) (λ name. sub text name more) (λ name. then_do (sub text name more) (judged_by site t go)) (λ name. refl)))
 
 -- what a record leaves, and then what a term leaves of it
 judged_leaves : (zones : Answering) (asked : List Question) (site : Site) (t : ℕ) (purpose : Purpose) (run : Counts → Run) (c : Counts) (inner : State)
@@ -119,10 +157,10 @@ live_before_entry None within c e h = absurd e
 live_before_entry (Some s) within c e h = entered_live s c (subst (λ w. w ≡ Some (Live c)) e h)
 
 -- a walk over the record that a term asks for, with the states that enter it, is a walk over what the term makes of it
-pub judged_walk : (bits : ℕ) (zones : Answering) (address : ℕ → Address) (scene : Scene) (t : ℕ) (purpose : Purpose) (run : ℕ → Counts → Run) (old within inner new : List (Cidr × State)) (asked more : List Question)
+judged_walk : (bits : ℕ) (zones : Answering) (address : ℕ → Address) (scene : Scene) (t : ℕ) (purpose : Purpose) (run : ℕ → Counts → Run) (old within inner new : List (Cidr × State)) (asked more : List Question)
     → StepsAt bits (λ a. entered) old within → Walks bits zones (λ a counts go. run a counts) within inner asked more
     → StepsWith bits (after_target (record { name = scene.name.now; term = t }) purpose) inner old new
-    → Walks bits zones (judged_stretch address scene t purpose run) old new asked more
+    → Walks bits zones (λ a. judged (site_at scene (address a)) t purpose (run a)) old new asked more
 judged_walk bits zones address scene t purpose run old within inner new asked more enters walks uses = record {
   each = λ a below. judged_stands zones more (site_at scene (address a)) t purpose (run a) (value_at bits old a) (value_at bits within a) (value_at bits inner a) (value_at bits new a)
       (enters a below) (walks.each a below) (uses a below);
@@ -138,3 +176,15 @@ judged_walk bits zones address scene t purpose run old within inner new asked mo
     })
   ];
 }
+
+pub target_walk : (bits : ℕ) (zones : Answering) (address : ℕ → Address) (scene : Scene) (depth t : ℕ) (spec : List Piece) (purpose : Purpose) (old within inner new : List (Cidr × State)) (asked more : List Question)
+    → StepsAt bits (λ a. entered) old within → Walks bits zones (reached_stretch address scene depth t spec) within inner asked more
+    → StepsWith bits (after_target (record { name = scene.name.now; term = t }) purpose) inner old new
+    → Walks bits zones (target_stretch address scene depth t spec purpose) old new asked more
+target_walk bits zones address scene depth t spec purpose old within inner new asked more enters walks uses =
+    walks_alike bits zones (target_stretch address scene depth t spec purpose) (λ a. judged (site_at scene (address a)) t purpose (run a)) old new asked more
+    (λ a c go. sym (target_judged (site_at scene (address a)) (check scene.limits (address a) depth) t spec c (goes_on purpose go)))
+    (judged_walk bits zones address scene t purpose run old within inner new asked more enters walks uses)
+  where
+    run : ℕ → Counts → Run
+    run a counts = with_domain (site_at scene (address a)) t spec counts (check scene.limits (address a) depth)

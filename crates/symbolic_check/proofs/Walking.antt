@@ -7,7 +7,7 @@ use Rattle.spf_grammar.specs.declared.verdict.Verdict.{Verdict}
 use Rattle.spf_model.specs.declared.outcome.Counts.{Counts}
 use Rattle.spf_model.specs.declared.outcome.Outcome.{Outcome}
 use Rattle.spf_model.specs.declared.outcome.Outcome.TheVariants.{Is}
-use Rattle.spf_model.specs.Run.{Run, Ends, Answering}
+use Rattle.spf_model.specs.Run.{Run, Ends, Answering, AsksFor}
 use Rattle.symbolic_check.specs.declared.state.State.{State}
 use Rattle.symbolic_check.specs.declared.state.State.TheVariants.{Live, Decided, Failed}
 use Rattle.symbolic_check.specs.Walk.{Follows, Leaves, Part, Stretch, Moves, Walks, then_stretch, StepsAt}
@@ -99,6 +99,42 @@ walks_twice bits zones first next old mid new asked between more f g = record {
         })
   ];
 }
+
+-- ---- the same stretch
+
+-- one address moves over a stretch as over another that is the same run
+moves_alike : (zones : Answering) (asked : List Question) (first next : Stretch) (old new : State)
+    → ((c : Counts) (go : Counts → Run) → first c go ≡ next c go) → Moves zones asked next old new → Moves zones asked first old new
+moves_alike zones asked first next (Live c) new same h = leaves_same zones asked (first c) (next c) new (same c) h
+moves_alike zones asked first next (Decided v c) new same h = h
+moves_alike zones asked first next (Failed o) new same h = h
+
+stands_alike : (zones : Answering) (asked : List Question) (first next : Stretch) (old new : Option State)
+    → ((c : Counts) (go : Counts → Run) → first c go ≡ next c go)
+    → IsSomeAnd old (λ s. IsSomeAnd new (Moves zones asked next s)) → IsSomeAnd old (λ s. IsSomeAnd new (Moves zones asked first s))
+stands_alike zones asked first next None new same h = h
+stands_alike zones asked first next (Some s) None same h = h
+stands_alike zones asked first next (Some s) (Some u) same h = moves_alike zones asked first next s u same h
+
+pub walks_alike : (bits : ℕ) (zones : Answering) (first next : ℕ → Stretch) (old new : List (Cidr × State)) (asked more : List Question)
+    → ((a : ℕ) (c : Counts) (go : Counts → Run) → first a c go ≡ next a c go)
+    → Walks bits zones next old new asked more → Walks bits zones first old new asked more
+walks_alike bits zones first next old new asked more same walks = record {
+  each = λ a below. stands_alike zones more (first a) (next a) (value_at bits old a) (value_at bits new a) (same a) (walks.each a below);
+  kept = walks.kept;
+  only = λ q h. elim (walks.only q h) [
+    | inl here ↦ inl here
+    | inr by ↦ inr (record {
+      address = by.address;
+      counts = by.counts;
+      within = by.within;
+      live = by.live;
+      asks = λ go. subst (λ (run : Run). AsksFor zones run q) (sym (same by.address by.counts go)) (by.asks go);
+    })
+  ];
+}
+
+-- ---- steps
 
 -- a step that asks nothing is a walk, where each value that it makes is what the stretch leaves
 stands_stepped : (zones : Answering) (asked : List Question) (stretch : Stretch) (step : State → State)

@@ -6,8 +6,8 @@ use Rattle.spf_grammar.specs.declared.verdict.Verdict.{Verdict}
 use Rattle.spf_grammar.specs.declared.policy.Term.{Term}
 use Rattle.spf_model.specs.declared.outcome.Counts.{Counts}
 use Rattle.spf_model.specs.declared.outcome.Outcome.TheVariants.{Is}
-use Rattle.spf_model.specs.Run.{Run, Ends, then_do}
-use Rattle.spf_model.specs.Judging.{Judge, judge, judged_by, is_pass, with_verdict}
+use Rattle.spf_model.specs.Run.{Run, Ends}
+use Rattle.spf_model.specs.Judging.{Judge, judge, is_pass, with_domain, with_verdict}
 use Rattle.spf_model.specs.Check.{check, trying, tried, term_after, default, unless_matched}
 use Rattle.symbolic_check.specs.declared.scene.Scene.{Scene}
 use Rattle.symbolic_check.specs.declared.state.Purpose.{Purpose}
@@ -45,11 +45,11 @@ abbrev pub goes_on : Purpose → (Counts → Run) → Verdict → Counts → Run
 goes_on (Include verdict) go found counts = unless_matched verdict go (is_pass found) counts
 goes_on Redirect go found counts = Ends (Is found) counts
 
--- a record that a term asks for, by its run, and then what the term makes of it
-abbrev pub judged_stretch : (ℕ → Address) → Scene → ℕ → Purpose → (ℕ → Counts → Run) → ℕ → Stretch
-judged_stretch address scene t purpose run a counts go = then_do (run a counts) (judged_by (site_at scene (address a)) t (goes_on purpose go))
+-- RFC 7208, sections 5.2 and 6.1: the record that a term asks for, once its lookup is counted, which goes on nowhere
+abbrev pub reached_stretch : (ℕ → Address) → Scene → ℕ → ℕ → List Piece → ℕ → Stretch
+reached_stretch address scene depth t spec a counts go = with_domain (site_at scene (address a)) t spec counts (check scene.limits (address a) depth)
 
--- the record that a term asks for
+-- the record that a term asks for, and what the term makes of its verdict
 abbrev pub target_stretch : (ℕ → Address) → Scene → ℕ → ℕ → List Piece → Purpose → ℕ → Stretch
 target_stretch address scene depth t spec purpose a counts go =
     with_verdict (site_at scene (address a)) (check scene.limits (address a) depth) t spec counts (goes_on purpose go)

@@ -3,6 +3,7 @@
 
 mod asked;
 mod both;
+mod failure;
 mod gathered;
 mod hosts;
 mod laws;

@@ -1,10 +1,12 @@
 //! What stands at an address in the midst of a record, and what a step makes of it.
 ghost use Rattle.std.specs.Prelude.{◌≡◌, IfOk};
+ghost use Rattle.symbolic_check.specs.declared.state.State.TheVariants.{Failed};
 ghost use Rattle.symbolic_check.specs.Steps as step;
 
+use crate::failure::Failure;
 use spf_grammar::Verdict;
 use spf_model::{Cause, Counts, Limits, Outcome, Place};
-use std::alloc::AllocError;
+use std::alloc::{AllocError, Global};
 
 /// What stands at an address in the midst of a record.
 #[derive(Clone, Drop, PartialEq, Eq)]
@@ -14,7 +16,7 @@ pub(crate) enum State {
     /// The record has come to a verdict.
     Decided(Verdict, Counts),
     /// The evaluation has ended with an outcome that is no verdict.
-    Failed(Outcome),
+    Failed(Failure),
 }
 
 /// What a term makes of the verdict of the record that it asks for.
@@ -35,14 +37,19 @@ impl State {
     }
 
     /// What stands here after a term that asks the DNS is counted (RFC 7208, section 4.6.4).
-    pub(crate) fn after_lookup(&self, limits: Limits, place: &Place) -> Result<State, AllocError>
+    pub(crate) fn after_lookup(
+        &self,
+        alloc: Global,
+        limits: Limits,
+        place: &Place,
+    ) -> Result<State, AllocError>
         ensures { IfOk result (λ state. state ≡ step.after_lookup limits place.now self.now) }
     {
         let State::Live(counts) = self else {
             return self.clone();
         };
         if counts.lookups >= limits.lookups {
-            return Ok(State::Failed(Outcome::Perm(Cause::Lookups, place.clone()?)));
+            return failed(alloc, Outcome::Perm(Cause::Lookups, place.clone()?));
         }
         Ok(State::Live(Counts {
             lookups: counts.lookups + 1,
@@ -53,6 +60,7 @@ impl State {
     /// What stands here after a term that got a void answer, or none, is counted (RFC 7208, section 4.6.4).
     pub(crate) fn after_void(
         &self,
+        alloc: Global,
         limits: Limits,
         place: &Place,
         void: bool,
@@ -66,7 +74,7 @@ impl State {
             return Ok(State::Live(*counts));
         }
         if counts.voids >= limits.voids {
-            return Ok(State::Failed(Outcome::Perm(Cause::Voids, place.clone()?)));
+            return failed(alloc, Outcome::Perm(Cause::Voids, place.clone()?));
         }
         Ok(State::Live(Counts {
             lookups: counts.lookups,
@@ -85,11 +93,15 @@ impl State {
     }
 
     /// What stands here after a term that ends every evaluation that comes to it, with an outcome that is no verdict.
-    pub(crate) fn after_failure(&self, outcome: &Outcome) -> Result<State, AllocError>
+    pub(crate) fn after_failure(
+        &self,
+        alloc: Global,
+        outcome: &Outcome,
+    ) -> Result<State, AllocError>
         ensures { IfOk result (λ state. state ≡ step.after_failure outcome.now self.now) }
     {
         match self {
-            State::Live(_) => Ok(State::Failed(outcome.clone()?)),
+            State::Live(_) => failed(alloc, outcome.clone()?),
             _ => self.clone(),
         }
     }
@@ -123,6 +135,7 @@ impl State {
     /// What stands here after a record that a term asked for, at the end of which this stands (RFC 7208, sections 5.2 and 6.1).
     pub(crate) fn after_target(
         &self,
+        alloc: Global,
         inner: &State,
         place: &Place,
         purpose: Purpose,
@@ -130,19 +143,19 @@ impl State {
         ensures { IfOk result (λ state. state ≡ step.after_target place.now purpose inner.now self.now) }
     {
         match self {
-            State::Live(_) => inner.used(place, purpose),
+            State::Live(_) => inner.used(alloc, place, purpose),
             _ => self.clone(),
         }
     }
 
     /// What a term makes of this at the end of the record that it asked for (RFC 7208, sections 5.2 and 6.1).
-    fn used(&self, place: &Place, purpose: Purpose) -> Result<State, AllocError>
+    fn used(&self, alloc: Global, place: &Place, purpose: Purpose) -> Result<State, AllocError>
         ensures { IfOk result (λ state. state ≡ step.from_target place.now purpose self.now) }
     {
         match self {
             State::Live(counts) => Ok(State::Live(*counts)),
             State::Decided(found, counts) => Ok(purpose.of_verdict(*found, *counts)),
-            State::Failed(outcome) => Ok(State::Failed(required(outcome, place)?)),
+            State::Failed(failure) => failed(alloc, required(failure.outcome(), place)?),
         }
     }
 
@@ -153,7 +166,7 @@ impl State {
         match self {
             State::Live(_) => Ok(Outcome::Is(Verdict::Neutral)),
             State::Decided(verdict, _) => Ok(Outcome::Is(*verdict)),
-            State::Failed(outcome) => outcome.clone(),
+            State::Failed(failure) => failure.outcome().clone(),
         }
     }
 }
@@ -174,6 +187,13 @@ impl Purpose {
             Purpose::Redirect => State::Decided(found, counts),
         }
     }
+}
+
+/// The end with an outcome that is no verdict.
+fn failed(alloc: Global, outcome: Outcome) -> Result<State, AllocError>
+    ensures { IfOk result (λ state. state ≡ Failed outcome) }
+{
+    Ok(State::Failed(Failure::new(alloc, outcome)?))
 }
 
 /// The outcome of a record that a term asked for. That there is none is an error of the term (RFC 7208, sections 5.2 and 6.1).

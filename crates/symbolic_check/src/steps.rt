@@ -34,7 +34,7 @@ pub(crate) fn count_lookups<W: Width>(
         alloc,
         states,
         states,
-        |state, _| state.after_lookup(limits, place),
+        |state, _| state.after_lookup(alloc, limits, place),
     )
 }
 
@@ -52,7 +52,7 @@ pub(crate) fn count_voids<W: Width>(
         alloc,
         states,
         states,
-        |state, _| state.after_void(limits, place, void),
+        |state, _| state.after_void(alloc, limits, place, void),
     )
 }
 
@@ -68,23 +68,26 @@ pub(crate) fn fail<W: Width>(
         alloc,
         states,
         states,
-        |state, _| state.after_failure(outcome),
+        |state, _| state.after_failure(alloc, outcome),
     )
 }
 
-/// A directive that matches every address, or none (RFC 7208, section 4.6.2).
+/// A directive that matches every address, or none (RFC 7208, section 4.6.2). Mostly none is live after a row of networks.
 pub(crate) fn match_all<W: Width>(
     alloc: Global,
-    states: &States<W>,
+    states: States<W>,
     verdict: Verdict,
     matches: bool,
 ) -> Result<States<W>, AllocError>
-    ensures { IfOk result (λ new. StepsAt W.BITS (λ a. step.after_match verdict matches) states.now new) }
+    ensures { IfOk result (λ new. StepsAt W.BITS (λ a. step.after_match verdict matches) states new) }
 {
+    if !is_some_live(&states) {
+        return Ok(states);
+    }
     TrieMap::combine(
         alloc,
-        states,
-        states,
+        &states,
+        &states,
         |state, _| state.after_match(verdict, matches),
     )
 }
@@ -144,7 +147,7 @@ pub(crate) fn use_target<W: Width>(
         alloc,
         states,
         inner,
-        |state, after| state.after_target(after, place, purpose),
+        |state, after| state.after_target(alloc, after, place, purpose),
     )
 }
 

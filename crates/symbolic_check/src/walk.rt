@@ -5,11 +5,11 @@ ghost use Rattle.std.specs.List.{list_all};
 ghost use Rattle.zone_answers.specs.declared.answer.Question.{Question};
 ghost use Rattle.spf_grammar.specs.declared.policy.Term.{Term as GivenTerm};
 ghost use Rattle.spf_model.specs.Run.{says};
-ghost use Rattle.spf_model.specs.Check.{check, redirect_from};
+ghost use Rattle.spf_model.specs.Check.{redirect_from};
 ghost use Rattle.spf_model.specs.Leads.{TargetFits, TermFits, TermsFit};
 ghost use Rattle.symbolic_check.specs.Networks as networks;
 ghost use Rattle.symbolic_check.specs.Walk.{Walks};
-ghost use Rattle.symbolic_check.specs.Scenes.{number_after, term_stretch, terms_stretch, default_stretch, record_stretch, target_stretch, judged_stretch};
+ghost use Rattle.symbolic_check.specs.Scenes.{number_after, term_stretch, terms_stretch, default_stretch, record_stretch, target_stretch, reached_stretch};
 
 use crate::hosts::Lens;
 use crate::networks::{FamilyWidth, first_networks};
@@ -88,23 +88,39 @@ impl Scene<'_> {
         self.walk_row(&terms[start..], states)
     }
 
-    /// What a term makes of the record at the domain of the scene `inner`, which it asks for.
+    /// The record that a term asks for, once its lookup is counted, with the states that enter it. Where its target is no name,
+    /// its evaluation ends with that.
     #[cycle(walk)]
-    fn enter_target<W: FamilyWidth>(
+    fn reach_target<W: FamilyWidth>(
         &self,
         depth: u32,
         term: u32,
-        inner: &Scene<'_>,
-        purpose: Purpose,
+        spec: &MacroText,
         states: States<W>,
         asked: &mut Questions,
     ) -> Result<States<W>, AllocError>
-        ensures { IfOk result (λ new. Walks W.BITS (says inner.now.zones.now)
-            (judged_stretch W.address self.now term purpose (λ a counts. check inner.now.limits (W.address a) depth inner.now.domain.now inner.now.name.now counts)) states new asked.old asked.new) }
+        requires { TargetFits (Some spec.now) }
+        ensures { IfOk result (λ new. Walks W.BITS (says self.now.zones.now)
+            (reached_stretch W.address self.now depth term spec.now) states new asked.old asked.new) }
     {
-        let entered = steps::enter(self.alloc, &states)?;
-        let found = inner.walk_record(depth, entered, asked)?;
-        steps::use_target(self.alloc, &states, &found, &self.place(term), purpose)
+        let counted = steps::count_lookups(self.alloc, &states, self.limits, &self.place(term))?;
+        if !steps::is_some_live(&counted) {
+            return Ok(counted);
+        }
+        match self.target::<W>(term, spec) {
+            Ok((domain, name)) => {
+                let inner = Scene {
+                    alloc: self.alloc,
+                    zones: self.zones,
+                    limits: self.limits,
+                    domain: domain.as_slice(),
+                    name: &name,
+                };
+                inner.walk_record(depth, counted, asked)
+            }
+            Err(Halt::Ended(outcome)) => steps::fail(self.alloc, &counted, &outcome),
+            Err(Halt::Memory) => Err(AllocError),
+        }
     }
 
     /// What a term makes of the record that it asks for. Records below it are nested so deep.
@@ -122,24 +138,12 @@ impl Scene<'_> {
         ensures { IfOk result (λ new. Walks W.BITS (says self.now.zones.now)
             (target_stretch W.address self.now depth term spec.now purpose) states new asked.old asked.new) }
     {
-        let counted = steps::count_lookups(self.alloc, &states, self.limits, &self.place(term))?;
-        if !steps::is_some_live(&counted) {
-            return Ok(counted);
+        if !steps::is_some_live(&states) {
+            return Ok(states);
         }
-        match self.target::<W>(term, spec) {
-            Ok((domain, name)) => {
-                let inner = Scene {
-                    alloc: self.alloc,
-                    zones: self.zones,
-                    limits: self.limits,
-                    domain: domain.as_slice(),
-                    name: &name,
-                };
-                self.enter_target(depth, term, &inner, purpose, counted, asked)
-            }
-            Err(Halt::Ended(outcome)) => steps::fail(self.alloc, &counted, &outcome),
-            Err(Halt::Memory) => Err(AllocError),
-        }
+        let entered = steps::enter(self.alloc, &states)?;
+        let found = self.reach_target(depth, term, spec, entered, asked)?;
+        steps::use_target(self.alloc, &states, &found, &self.place(term), purpose)
     }
 
     /// A term. Records below it are nested so deep.
@@ -160,7 +164,7 @@ impl Scene<'_> {
             return self.walk_row(std::slice::from_ref(term), states);
         };
         match mechanism {
-            Mechanism::All => steps::match_all(self.alloc, &states, *verdict, true),
+            Mechanism::All => steps::match_all(self.alloc, states, *verdict, true),
             Mechanism::Ip4(_) | Mechanism::Ip6(_) => {
                 self.walk_row(std::slice::from_ref(term), states)
             }
@@ -231,7 +235,7 @@ impl Scene<'_> {
             Some((term, spec)) => {
                 self.walk_target(depth, term, spec, Purpose::Redirect, states, asked)
             }
-            None => steps::match_all(self.alloc, &states, Verdict::Neutral, true),
+            None => steps::match_all(self.alloc, states, Verdict::Neutral, true),
         }
     }
 

@@ -6,8 +6,8 @@ use Rattle.symbolic_check.proofs.scene.Scene.+walk.Given as goal
 abbrev pub decreases-walk_record : goal.decreases-walk_record
 decreases-walk_record g l = 6 * l.depth
 
-abbrev pub decreases-enter_target : goal.decreases-enter_target
-decreases-enter_target g l = 6 * l.depth + 1
+abbrev pub decreases-reach_target : goal.decreases-reach_target
+decreases-reach_target g l = 6 * l.depth + 1
 
 abbrev pub decreases-walk_target : goal.decreases-walk_target
 decreases-walk_target g l = 6 * l.depth + 2
