@@ -17,7 +17,7 @@ use Rattle.spf_model.specs.declared.outcome.Halt.TheVariants.{Ended}
 use Rattle.spf_model.specs.declared.outcome.Outcome.{Outcome}
 use Rattle.spf_model.specs.declared.outcome.Outcome.TheVariants.{Perm}
 use Rattle.spf_model.specs.Run.{Run, Answering}
-use Rattle.spf_model.specs.Judging.{Labels, counted}
+use Rattle.spf_model.specs.Judging.{Labels}
 use Rattle.spf_model.specs.Check.{check, with_record, evaluated, redirect_from}
 use Rattle.spf_model.specs.Leads.{TargetFits, TermFits, TermsFit}
 use Rattle.symbolic_check.specs.declared.scene.Scene.{Scene}
@@ -28,22 +28,15 @@ use Rattle.symbolic_check.specs.Hosts.{naming_target}
 use Rattle.symbolic_check.specs.Settling.{site_at, Settles}
 use Rattle.symbolic_check.specs.Steps.{entered, after_lookup, after_match, after_failure, after_target}
 use Rattle.symbolic_check.specs.Scenes.{term_stretch, terms_stretch, default_stretch, record_stretch, target_stretch, reached_stretch}
-use Rattle.symbolic_check.specs.Walk.{Stretch, Walks, SomeLive, NoneLive, StepsAt, StepsWith}
+use Rattle.symbolic_check.specs.Walk.{Stretch, Walks, SomeLive, StepsAt, StepsWith}
 use Rattle.symbolic_check.proofs.Walking.{walks_twice, walks_by_steps}
-use Rattle.symbolic_check.proofs.Stepping.{lookup_moves, match_moves, failure_moves}
-use Rattle.symbolic_check.proofs.Settling.{walks_passed, walks_stopped, walks_idle}
+use Rattle.symbolic_check.proofs.Stepping.{match_moves, failure_moves}
+use Rattle.symbolic_check.proofs.Settling.{walks_passed, walks_stopped}
 use Rattle.symbolic_check.proofs.Targets.{target_walk}
 
 -- the states of a walk, or none for want of memory
 abbrev pub Walked : (E : Type 0) (bits : ℕ) → Answering → (ℕ → Stretch) → List (Cidr × State) → List Question → List Question → Result (List (Cidr × State)) E → Type 0
 Walked E bits zones stretch old asked more result = IfOk result (λ new. Walks bits zones stretch old new asked more)
-
--- a walk, and then another
-then_walked : {E : Type 0} (bits : ℕ) (zones : Answering) (first next : ℕ → Stretch) (old mid : List (Cidr × State)) (asked between more : List Question) (result : Result (List (Cidr × State)) E)
-    → Walks bits zones first old mid asked between → Walked E bits zones next mid between more result
-    → Walked E bits zones (λ a counts go. first a counts (λ b. next a b go)) old asked more result
-then_walked bits zones first next old mid asked between more (Ok new) f g = walks_twice bits zones first next old mid new asked between more f g
-then_walked bits zones first next old mid asked between more (Err e) f g = g
 
 -- a step is a walk
 stepped : {E : Type 0} (bits : ℕ) (zones : Answering) (stretch : ℕ → Stretch) (step : ℕ → State → State) (old : List (Cidr × State)) (asked : List Question) (result : Result (List (Cidr × State)) E)
@@ -54,24 +47,16 @@ stepped bits zones stretch step old asked (Err e) walks h = h
 
 -- ---- a term's record
 
-pub target_used : {E : Type 0} (bits : ℕ) (zones : Answering) (address : ℕ → Address) (scene : Scene) (depth t : ℕ) (spec : List Piece) (purpose : Purpose) (old within inner : List (Cidr × State)) (asked more : List Question)
+pub target_used : {E : Type 0} (bits : ℕ) (zones : Answering) (address : ℕ → Address) (scene : Scene) (depth t : ℕ) (spec : List Piece) (purpose : Purpose) (old mid inner : List (Cidr × State)) (asked more : List Question)
     (place : Place) (result : Result (List (Cidr × State)) E) → place ≡ record { name = scene.name.now; term = t }
-    → StepsAt bits (λ a. entered) old within → Walks bits zones (reached_stretch address scene depth t spec) within inner asked more
+    → StepsAt bits (λ a state. after_lookup scene.limits place (entered state)) old mid → Walks bits zones (reached_stretch address scene depth t spec) mid inner asked more
     → IfOk result (λ new. StepsWith bits (after_target place purpose) inner old new)
     → Walked E bits zones (target_stretch address scene depth t spec purpose) old asked more result
-target_used bits zones address scene depth t spec purpose old within inner asked more place (Err e) at_term enters walks uses = uses
-target_used bits zones address scene depth t spec purpose old within inner asked more place (Ok new) at_term enters walks uses =
-    target_walk bits zones address scene depth t spec purpose old within inner new asked more enters walks
+target_used bits zones address scene depth t spec purpose old mid inner asked more place (Err e) at_term enters walks uses = uses
+target_used bits zones address scene depth t spec purpose old mid inner asked more place (Ok new) at_term enters walks uses =
+    target_walk bits zones address scene depth t spec purpose old mid inner new asked more
+    (subst (λ (p : Place). StepsAt bits (λ a state. after_lookup scene.limits p (entered state)) old mid) at_term enters) walks
     (subst (λ (p : Place). StepsWith bits (after_target p purpose) inner old new) at_term uses)
-
--- the lookup of a term is counted
-lookup_walk : (bits : ℕ) (zones : Answering) (address : ℕ → Address) (scene : Scene) (t : ℕ) (place : Place) (old new : List (Cidr × State)) (asked : List Question)
-    → place ≡ record { name = scene.name.now; term = t } → StepsAt bits (λ a. after_lookup scene.limits place) old new
-    → Walks bits zones (λ a. counted (site_at scene (address a)) t) old new asked asked
-lookup_walk bits zones address scene t place old new asked at_term steps =
-    walks_by_steps bits zones (λ a. counted (site_at scene (address a)) t) (λ a. after_lookup scene.limits (record { name = scene.name.now; term = t })) old new asked
-    (λ a s. lookup_moves zones asked (site_at scene (address a)) t s)
-    (subst (λ (p : Place). StepsAt bits (λ a. after_lookup scene.limits p) old new) at_term steps)
 
 -- the record at a term's target, once its lookup is counted
 abbrev on_target : (ℕ → Address) → Scene → ℕ → ℕ → Counts → List ℕ × Labels → (Counts → Run) → Run
@@ -80,40 +65,23 @@ on_target address scene depth a counts found go = check scene.limits (address a)
 abbrev name_part : (ℕ → Address) → Scene → ℕ → List Piece → ℕ → Counts → (List ℕ × Labels → Run) → Run
 name_part address scene t spec a counts = naming_target (site_at scene (address a)) t spec counts
 
-abbrev named_stretch : (ℕ → Address) → Scene → ℕ → ℕ → List Piece → ℕ → Stretch
-named_stretch address scene depth t spec a counts go =
-    name_part address scene t spec a counts (λ found. on_target address scene depth a counts found go)
-
-pub reached_idle : (bits : ℕ) (zones : Answering) (address : ℕ → Address) (scene : Scene) (depth t : ℕ) (spec : List Piece) (place : Place) (old mid : List (Cidr × State)) (asked : List Question)
-    → place ≡ record { name = scene.name.now; term = t } → StepsAt bits (λ a. after_lookup scene.limits place) old mid → NoneLive bits mid
-    → Walks bits zones (reached_stretch address scene depth t spec) old mid asked asked
-reached_idle bits zones address scene depth t spec place old mid asked at_term counts none =
-    walks_twice bits zones (λ a. counted (site_at scene (address a)) t) (named_stretch address scene depth t spec) old mid mid asked asked asked
-    (lookup_walk bits zones address scene t place old mid asked at_term counts) (walks_idle bits zones (named_stretch address scene depth t spec) mid asked none)
-
-pub reached_stopped : {E : Type 0} (bits : ℕ) (zones : Answering) (address : ℕ → Address) (scene : Scene) (depth t : ℕ) (spec : List Piece) (place : Place) (outcome : Outcome) (old mid : List (Cidr × State)) (asked : List Question) (result : Result (List (Cidr × State)) E)
-    → place ≡ record { name = scene.name.now; term = t } → StepsAt bits (λ a. after_lookup scene.limits place) old mid → SomeLive bits mid
-    → Settles zones (name_part address scene t spec) asked asked (Err (Ended outcome))
-    → IfOk result (λ new. StepsAt bits (λ a. after_failure outcome) mid new)
+pub reached_stopped : {E : Type 0} (bits : ℕ) (zones : Answering) (address : ℕ → Address) (scene : Scene) (depth t : ℕ) (spec : List Piece) (outcome : Outcome) (old : List (Cidr × State)) (asked : List Question) (result : Result (List (Cidr × State)) E)
+    → SomeLive bits old → Settles zones (name_part address scene t spec) asked asked (Err (Ended outcome))
+    → IfOk result (λ new. StepsAt bits (λ a. after_failure outcome) old new)
     → Walked E bits zones (reached_stretch address scene depth t spec) old asked asked result
-reached_stopped bits zones address scene depth t spec place outcome old mid asked result at_term counts live settles fails =
-    then_walked bits zones (λ a. counted (site_at scene (address a)) t) (named_stretch address scene depth t spec) old mid asked asked asked result
-    (lookup_walk bits zones address scene t place old mid asked at_term counts)
-    (stepped bits zones (named_stretch address scene depth t spec) (λ a. after_failure outcome) mid asked result
-    (λ new steps. walks_stopped bits zones (name_part address scene t spec) outcome (on_target address scene depth) mid new asked asked settles.0 settles.1 live steps)
-    fails)
+reached_stopped bits zones address scene depth t spec outcome old asked result live settles fails =
+    stepped bits zones (reached_stretch address scene depth t spec) (λ a. after_failure outcome) old asked result
+    (λ new steps. walks_stopped bits zones (name_part address scene t spec) outcome (on_target address scene depth) old new asked asked settles.0 settles.1 live steps)
+    fails
 
-pub reached_entered : {E : Type 0} (bits : ℕ) (zones : Answering) (address : ℕ → Address) (scene : Scene) (depth t : ℕ) (spec : List Piece) (place : Place) (text domain : List ℕ) (name : Labels) (old mid : List (Cidr × State)) (asked more : List Question) (result : Result (List (Cidr × State)) E)
-    → place ≡ record { name = scene.name.now; term = t } → StepsAt bits (λ a. after_lookup scene.limits place) old mid → SomeLive bits mid
-    → Settles {A = List ℕ × Labels} zones (name_part address scene t spec) asked asked (Ok (text, name)) → domain ≡ text
-    → Walked E bits zones (λ a counts go. check scene.limits (address a) depth domain name counts) mid asked more result
+pub reached_entered : {E : Type 0} (bits : ℕ) (zones : Answering) (address : ℕ → Address) (scene : Scene) (depth t : ℕ) (spec : List Piece) (text domain : List ℕ) (name : Labels) (old : List (Cidr × State)) (asked more : List Question) (result : Result (List (Cidr × State)) E)
+    → SomeLive bits old → Settles {A = List ℕ × Labels} zones (name_part address scene t spec) asked asked (Ok (text, name)) → domain ≡ text
+    → Walked E bits zones (λ a counts go. check scene.limits (address a) depth domain name counts) old asked more result
     → Walked E bits zones (reached_stretch address scene depth t spec) old asked more result
-reached_entered bits zones address scene depth t spec place text domain name old mid asked more (Err e) at_term counts live settles same walks = walks
-reached_entered bits zones address scene depth t spec place text domain name old mid asked more (Ok new) at_term counts live settles same walks =
-    walks_twice bits zones (λ a. counted (site_at scene (address a)) t) (named_stretch address scene depth t spec) old mid new asked asked more
-    (lookup_walk bits zones address scene t place old mid asked at_term counts)
-    (walks_passed bits zones (name_part address scene t spec) (text, name) (on_target address scene depth) mid new asked asked more settles.0 settles.1 live
-    (subst (λ (d : List ℕ). Walks bits zones (λ a counts go. check scene.limits (address a) depth d name counts) mid new asked more) same walks))
+reached_entered bits zones address scene depth t spec text domain name old asked more (Err e) live settles same walks = walks
+reached_entered bits zones address scene depth t spec text domain name old asked more (Ok new) live settles same walks =
+    walks_passed bits zones (name_part address scene t spec) (text, name) (on_target address scene depth) old new asked asked more settles.0 settles.1 live
+    (subst (λ (d : List ℕ). Walks bits zones (λ a counts go. check scene.limits (address a) depth d name counts) old new asked more) same walks)
 
 -- ---- one term
 

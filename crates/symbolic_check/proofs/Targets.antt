@@ -1,12 +1,13 @@
 -- What a term makes of the record that it asks for.
-use Rattle.std.proofs.Common.{◌≡◌, ℕ, ◌+◌, Bool, true, false, cond, List, refl, sym, ap, subst, inl, inr, Option, Some, None, IsSomeAnd}
+use Rattle.std.proofs.Common.{◌≡◌, ℕ, ◌+◌, ◌==◌, Bool, true, false, cond, List, [], ◌∷◌, map, refl, sym, ap, subst, inl, inr, Option, Some, None, IsSomeAnd}
 use Rattle.std.proofs.lemmas.Bool.{true≢false}
-use Rattle.std.specs.Prelude.{nat_le}
+use Rattle.std.specs.Prelude.{nat_le, option_map}
 use Rattle.addr_bits.specs.Prefix.{Cidr}
 use Rattle.addr_bits.specs.declared.address.Address.{Address}
 use Rattle.addr_bits.proofs.Texts.{one_address}
 use Rattle.zone_answers.specs.declared.answer.Question.{Question}
 use Rattle.prefix_trie.specs.Leaves.{value_at}
+use Rattle.addr_bits.specs.Width.{cut_of}
 use Rattle.spf_macros.specs.declared.piece.Piece.{Piece}
 use Rattle.spf_macros.specs.declared.expansion.Expanded.{Expanded}
 use Rattle.spf_macros.specs.declared.expansion.Expanded.TheVariants.{Out, Needs}
@@ -16,12 +17,13 @@ use Rattle.spf_grammar.specs.declared.verdict.Verdict.TheVariants.{Pass, Neutral
 use Rattle.spf_grammar.proofs.OnePolicy.{one_policy}
 use Rattle.spf_model.specs.declared.outcome.Cause.{Cause}
 use Rattle.spf_model.specs.declared.outcome.Cause.TheVariants as cause
+use Rattle.spf_model.specs.declared.outcome.Limits.{Limits}
 use Rattle.spf_model.specs.declared.outcome.Place.{Place}
 use Rattle.spf_model.specs.declared.outcome.Counts.{Counts}
 use Rattle.spf_model.specs.declared.outcome.Outcome.{Outcome}
 use Rattle.spf_model.specs.declared.outcome.Outcome.TheVariants.{Nothing, Is, Perm, Temp, Unsettled}
 use Rattle.spf_model.specs.Run.{Run, Ends, Answering, then_do}
-use Rattle.spf_model.specs.Judging.{Labels, Site, Sub, at, family_of, is_pass, go_if, name_of, with_text, with_target, with_name, with_domain, with_verdict, judged_by}
+use Rattle.spf_model.specs.Judging.{Labels, Site, Sub, at, family_of, is_pass, go_if, counted, name_of, with_text, with_target, with_name, with_domain, with_verdict, judged_by}
 use Rattle.spf_model.specs.Check.{check, unless_matched}
 use Rattle.spf_model.specs.Leads.{NoVerdict}
 use Rattle.spf_model.proofs.RunLaws.{asks_first, one_end}
@@ -29,13 +31,14 @@ use Rattle.symbolic_check.specs.declared.state.State.{State}
 use Rattle.symbolic_check.specs.declared.state.State.TheVariants.{Live, Decided, Failed}
 use Rattle.symbolic_check.specs.declared.state.Purpose.{Purpose}
 use Rattle.symbolic_check.specs.declared.state.Purpose.TheVariants.{Include, Redirect}
-use Rattle.symbolic_check.specs.Steps.{entered, used, from_target, after_target, required}
+use Rattle.symbolic_check.specs.Steps.{entered, after_lookup, used, from_target, after_target, required}
 use Rattle.symbolic_check.specs.Walk.{Follows, Leaves, Stretch, Moves, Walks, StepsAt, StepsWith}
 use Rattle.symbolic_check.specs.declared.scene.Scene.{Scene}
 use Rattle.symbolic_check.specs.Settling.{site_at}
 use Rattle.symbolic_check.specs.Scenes.{goes_on, reached_stretch, target_stretch}
 use Rattle.symbolic_check.proofs.Following.{follows_itself, follows_twice, follows_within}
-use Rattle.symbolic_check.proofs.Walking.{leaves_twice, walks_alike}
+use Rattle.symbolic_check.proofs.Walking.{leaves_twice, walks_twice, walks_by_steps, walks_alike}
+use Rattle.symbolic_check.proofs.Stepping.{lookup_moves}
 
 -- the run of a record, and then what a term makes of it
 abbrev judged : Site → ℕ → Purpose → (Counts → Run) → Stretch
@@ -177,14 +180,52 @@ judged_walk bits zones address scene t purpose run old within inner new asked mo
   ];
 }
 
-pub target_walk : (bits : ℕ) (zones : Answering) (address : ℕ → Address) (scene : Scene) (depth t : ℕ) (spec : List Piece) (purpose : Purpose) (old within inner new : List (Cidr × State)) (asked more : List Question)
-    → StepsAt bits (λ a. entered) old within → Walks bits zones (reached_stretch address scene depth t spec) within inner asked more
+-- the states that enter a record, before its lookup is counted
+abbrev enter_leaf : Cidr × State → Cidr × State
+enter_leaf leaf = (leaf.0, entered leaf.1)
+
+value_entered : (bits : ℕ) (states : List (Cidr × State)) (a : ℕ) → value_at bits (map enter_leaf states) a ≡ option_map entered (value_at bits states a)
+value_entered bits [] a = refl
+value_entered bits (leaf ∷ states) a = by_test (cut_of bits a leaf.0.len == leaf.0.start) (value_entered bits states a)
+  where
+    by_test : (test : Bool) → value_at bits (map enter_leaf states) a ≡ option_map entered (value_at bits states a)
+        → cond test (Some (entered leaf.1)) (value_at bits (map enter_leaf states) a) ≡ option_map entered (cond test (Some leaf.1) (value_at bits states a))
+    by_test true below = refl
+    by_test false below = below
+
+enters_at : (old : Option State) (P : State → Type 0) → IsSomeAnd old P → IsSomeAnd old (λ s. option_map entered old ≡ Some (entered s))
+enters_at None P h = h
+enters_at (Some s) P h = refl
+
+counts_at : (limits : Limits) (place : Place) (old new : Option State) → IsSomeAnd old (λ s. new ≡ Some (after_lookup limits place (entered s)))
+    → IsSomeAnd (option_map entered old) (λ s. new ≡ Some (after_lookup limits place s))
+counts_at limits place None new h = h
+counts_at limits place (Some s) new h = h
+
+pub target_walk : (bits : ℕ) (zones : Answering) (address : ℕ → Address) (scene : Scene) (depth t : ℕ) (spec : List Piece) (purpose : Purpose) (old mid inner new : List (Cidr × State)) (asked more : List Question)
+    → StepsAt bits (λ a state. after_lookup scene.limits (record { name = scene.name.now; term = t }) (entered state)) old mid
+    → Walks bits zones (reached_stretch address scene depth t spec) mid inner asked more
     → StepsWith bits (after_target (record { name = scene.name.now; term = t }) purpose) inner old new
     → Walks bits zones (target_stretch address scene depth t spec purpose) old new asked more
-target_walk bits zones address scene depth t spec purpose old within inner new asked more enters walks uses =
+target_walk bits zones address scene depth t spec purpose old mid inner new asked more enters walks uses =
     walks_alike bits zones (target_stretch address scene depth t spec purpose) (λ a. judged (site_at scene (address a)) t purpose (run a)) old new asked more
     (λ a c go. sym (target_judged (site_at scene (address a)) (check scene.limits (address a) depth) t spec c (goes_on purpose go)))
-    (judged_walk bits zones address scene t purpose run old within inner new asked more enters walks uses)
+    (judged_walk bits zones address scene t purpose run old within inner new asked more
+    (λ a below. subst (λ (w : Option State). IsSomeAnd (value_at bits old a) (λ s. w ≡ Some (entered s))) (sym (value_entered bits old a))
+    (enters_at (value_at bits old a) (λ s. value_at bits mid a ≡ Some (after_lookup scene.limits place (entered s))) (enters a below)))
+    (walks_twice bits zones (λ a. counted (site_at scene (address a)) t) (reached_stretch address scene depth t spec) within mid inner asked asked more
+    (walks_by_steps bits zones (λ a. counted (site_at scene (address a)) t) (λ a. after_lookup scene.limits place) within mid asked
+    (λ a s. lookup_moves zones asked (site_at scene (address a)) t s)
+    (λ a below. subst (λ (w : Option State). IsSomeAnd w (λ s. value_at bits mid a ≡ Some (after_lookup scene.limits place s))) (sym (value_entered bits old a))
+    (counts_at scene.limits place (value_at bits old a) (value_at bits mid a) (enters a below))))
+    walks)
+    uses)
   where
+    place : Place
+    place = record { name = scene.name.now; term = t }
+
+    within : List (Cidr × State)
+    within = map enter_leaf old
+
     run : ℕ → Counts → Run
     run a counts = with_domain (site_at scene (address a)) t spec counts (check scene.limits (address a) depth)

@@ -7,11 +7,12 @@ use Rattle.spf_grammar.specs.declared.policy.Term.{Term}
 use Rattle.spf_model.specs.declared.outcome.Counts.{Counts}
 use Rattle.spf_model.specs.declared.outcome.Outcome.TheVariants.{Is}
 use Rattle.spf_model.specs.Run.{Run, Ends}
-use Rattle.spf_model.specs.Judging.{Judge, judge, is_pass, with_domain, with_verdict}
+use Rattle.spf_model.specs.Judging.{Judge, judge, is_pass, with_verdict}
 use Rattle.spf_model.specs.Check.{check, trying, tried, term_after, default, unless_matched}
 use Rattle.symbolic_check.specs.declared.scene.Scene.{Scene}
 use Rattle.symbolic_check.specs.declared.state.Purpose.{Purpose}
 use Rattle.symbolic_check.specs.declared.state.Purpose.TheVariants.{Include, Redirect}
+use Rattle.symbolic_check.specs.Hosts.{naming_target}
 use Rattle.symbolic_check.specs.Walk.{Stretch}
 use Rattle.symbolic_check.specs.Settling.{site_at}
 
@@ -47,7 +48,8 @@ goes_on Redirect go found counts = Ends (Is found) counts
 
 -- RFC 7208, sections 5.2 and 6.1: the record that a term asks for, once its lookup is counted, which goes on nowhere
 abbrev pub reached_stretch : (ℕ → Address) → Scene → ℕ → ℕ → List Piece → ℕ → Stretch
-reached_stretch address scene depth t spec a counts go = with_domain (site_at scene (address a)) t spec counts (check scene.limits (address a) depth)
+reached_stretch address scene depth t spec a counts go =
+    naming_target (site_at scene (address a)) t spec counts (λ found. check scene.limits (address a) depth found.0 found.1 counts)
 
 -- the record that a term asks for, and what the term makes of its verdict
 abbrev pub target_stretch : (ℕ → Address) → Scene → ℕ → ℕ → List Piece → Purpose → ℕ → Stretch

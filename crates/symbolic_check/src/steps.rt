@@ -125,11 +125,22 @@ pub(crate) fn match_networks<W: Width>(
     )
 }
 
-/// The states with which a record that is asked for is entered: those of the live addresses (RFC 7208, section 5.2).
-pub(crate) fn enter<W: Width>(alloc: Global, states: &States<W>) -> Result<States<W>, AllocError>
-    ensures { IfOk result (λ new. StepsAt W.BITS (λ a. step.entered) states.now new) }
+/// The states with which a record that is asked for is entered: those of the live addresses, once the lookup of the term that
+/// asks for it is counted (RFC 7208, sections 4.6.4 and 5.2).
+pub(crate) fn enter<W: Width>(
+    alloc: Global,
+    states: &States<W>,
+    limits: Limits,
+    place: &Place,
+) -> Result<States<W>, AllocError>
+    ensures { IfOk result (λ new. StepsAt W.BITS (λ a state. step.after_lookup limits place.now (step.entered state)) states.now new) }
 {
-    TrieMap::combine(alloc, states, states, |state, _| Ok(state.entered()))
+    TrieMap::combine(
+        alloc,
+        states,
+        states,
+        |state, _| state.entered().after_lookup(alloc, limits, place),
+    )
 }
 
 /// What a term makes of the record that it asks for (RFC 7208, sections 5.2 and 6.1). `inner` is what stands after that

@@ -88,8 +88,8 @@ impl Scene<'_> {
         self.walk_row(&terms[start..], states)
     }
 
-    /// The record that a term asks for, once its lookup is counted, with the states that enter it. Where its target is no name,
-    /// its evaluation ends with that.
+    /// The record that a term asks for, with the states that enter it once its lookup is counted. Where its target is no name, its
+    /// evaluation ends with that.
     #[cycle(walk)]
     fn reach_target<W: FamilyWidth>(
         &self,
@@ -103,9 +103,8 @@ impl Scene<'_> {
         ensures { IfOk result (λ new. Walks W.BITS (says self.now.zones.now)
             (reached_stretch W.address self.now depth term spec.now) states new asked.old asked.new) }
     {
-        let counted = steps::count_lookups(self.alloc, &states, self.limits, &self.place(term))?;
-        if !steps::is_some_live(&counted) {
-            return Ok(counted);
+        if !steps::is_some_live(&states) {
+            return Ok(states);
         }
         match self.target::<W>(term, spec) {
             Ok((domain, name)) => {
@@ -116,9 +115,9 @@ impl Scene<'_> {
                     domain: domain.as_slice(),
                     name: &name,
                 };
-                inner.walk_record(depth, counted, asked)
+                inner.walk_record(depth, states, asked)
             }
-            Err(Halt::Ended(outcome)) => steps::fail(self.alloc, &counted, &outcome),
+            Err(Halt::Ended(outcome)) => steps::fail(self.alloc, &states, &outcome),
             Err(Halt::Memory) => Err(AllocError),
         }
     }
@@ -141,9 +140,10 @@ impl Scene<'_> {
         if !steps::is_some_live(&states) {
             return Ok(states);
         }
-        let entered = steps::enter(self.alloc, &states)?;
+        let place = self.place(term);
+        let entered = steps::enter(self.alloc, &states, self.limits, &place)?;
         let found = self.reach_target(depth, term, spec, entered, asked)?;
-        steps::use_target(self.alloc, &states, &found, &self.place(term), purpose)
+        steps::use_target(self.alloc, &states, &found, &place, purpose)
     }
 
     /// A term. Records below it are nested so deep.

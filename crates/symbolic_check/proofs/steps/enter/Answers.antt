@@ -6,4 +6,4 @@ use Rattle.symbolic_check.proofs.steps.enter.Goals as goal
 
 pub returns : goal.returns
 returns g c = if_ok_by _ c.combine.result c.combine.ensures.values
-    (λ new h. combined_alone g.W.Width.BITS c.args.states.now new h step.entered state_tells (λ x u w e. search rules))
+    (λ new h. combined_alone g.W.Width.BITS c.args.states.now new h (λ state. step.after_lookup c.args.limits c.args.place.now (step.entered state)) state_tells (λ x u w e. search rules))

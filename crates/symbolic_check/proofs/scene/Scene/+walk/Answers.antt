@@ -3,10 +3,10 @@ use Rattle.spf_grammar.specs.declared.policy.Term.{Term}
 use Rattle.spf_model.specs.Run.{says}
 use Rattle.spf_model.specs.Leads.{TermsFit}
 use Rattle.spf_model.proofs.Terms.{redirect_fits}
-use Rattle.symbolic_check.specs.Scenes.{target_stretch}
+use Rattle.symbolic_check.specs.Scenes.{target_stretch, reached_stretch}
 use Rattle.symbolic_check.proofs.Settling.{walks_idle}
 use Rattle.symbolic_check.proofs.Rows.{walked_none, walked_row, walked_term, walked_all, row_left}
-use Rattle.symbolic_check.proofs.Records.{target_used, reached_idle, reached_stopped, reached_entered, row_walked, all_walked, include_walked, include_fits, fit_at, redirect_walked, neutral_walked, too_deep, record_stopped, record_walked}
+use Rattle.symbolic_check.proofs.Records.{target_used, reached_stopped, reached_entered, row_walked, all_walked, include_walked, include_fits, fit_at, redirect_walked, neutral_walked, too_deep, record_stopped, record_walked}
 use Rattle.symbolic_check.proofs.scene.Scene.+walk.Goals.{walk_terms-then-not-is_row_term+in_ok-passed+in_ok-walked, walk_terms-else-not-is_row_term}
 use Rattle.symbolic_check.proofs.scene.Scene.+walk.Goals as goal
 
@@ -14,23 +14,23 @@ use Rattle.symbolic_check.proofs.scene.Scene.+walk.Goals as goal
 
 pub reach_target-returns-then-not-is_some_live : goal.reach_target-returns-then-not-is_some_live
 reach_target-returns-then-not-is_some_live g t c =
-    reached_idle g.W.Width.BITS (says c.args.self.now.zones.now) g.W.FamilyWidth.address c.args.self.now c.args.depth c.args.term c.args.spec.now c.place.result
-    c.args.states c.in_ok-counted.counted c.args.asked.now c.place.ensures c.in_ok-counted.ensures (rw c.if-not-is_some_live.true at c.is_some_live.ensures)
+    walks_idle g.W.Width.BITS (says c.args.self.now.zones.now) (reached_stretch g.W.FamilyWidth.address c.args.self.now c.args.depth c.args.term c.args.spec.now)
+    c.args.states c.args.asked.now (rw c.if-not-is_some_live.true at c.is_some_live.ensures)
 
 pub reach_target-walk_record-requires : goal.reach_target-walk_record-requires
 reach_target-walk_record-requires g t c κs within = (omega (arith, c.decreases), within)
 
 pub reach_target-returns-in-Ok : goal.reach_target-returns-in-Ok
 reach_target-returns-in-Ok g t c =
-    reached_entered g.W.Width.BITS (says c.args.self.now.zones.now) g.W.FamilyWidth.address c.args.self.now c.args.depth c.args.term c.args.spec.now c.place.result
-    c.in-Ok.domain c.as_slice.result.now c.in-Ok.name c.args.states c.in_ok-counted.counted c.args.asked.now c.walk_record.new.asked c.walk_record.result
-    c.place.ensures c.in_ok-counted.ensures (rw c.if-not-is_some_live.false at c.is_some_live.ensures) (c.in-Ok.ensures c.args.asked.now) c.as_slice.ensures c.walk_record.ensures
+    reached_entered g.W.Width.BITS (says c.args.self.now.zones.now) g.W.FamilyWidth.address c.args.self.now c.args.depth c.args.term c.args.spec.now
+    c.in-Ok.domain c.as_slice.result.now c.in-Ok.name c.args.states c.args.asked.now c.walk_record.new.asked c.walk_record.result
+    (rw c.if-not-is_some_live.false at c.is_some_live.ensures) (c.in-Ok.ensures c.args.asked.now) c.as_slice.ensures c.walk_record.ensures
 
 pub reach_target-returns-in-Err-Ended : goal.reach_target-returns-in-Err-Ended
 reach_target-returns-in-Err-Ended g t c =
-    reached_stopped g.W.Width.BITS (says c.args.self.now.zones.now) g.W.FamilyWidth.address c.args.self.now c.args.depth c.args.term c.args.spec.now c.place.result
-    c.in-Err-Ended.outcome c.args.states c.in_ok-counted.counted c.args.asked.now c.fail.result
-    c.place.ensures c.in_ok-counted.ensures (rw c.if-not-is_some_live.false at c.is_some_live.ensures) (rw c.in-Err-Ended.field-0-is at c.in-Err-Ended.ensures c.args.asked.now) c.fail.ensures
+    reached_stopped g.W.Width.BITS (says c.args.self.now.zones.now) g.W.FamilyWidth.address c.args.self.now c.args.depth c.args.term c.args.spec.now
+    c.in-Err-Ended.outcome c.args.states c.args.asked.now c.fail.result
+    (rw c.if-not-is_some_live.false at c.is_some_live.ensures) (rw c.in-Err-Ended.field-0-is at c.in-Err-Ended.ensures c.args.asked.now) c.fail.ensures
 
 pub walk_target-returns-then-not-is_some_live : goal.walk_target-returns-then-not-is_some_live
 walk_target-returns-then-not-is_some_live g t c =
@@ -43,8 +43,8 @@ walk_target-reach_target-requires g t c κs within = (omega (arith, c.decreases)
 pub walk_target-returns : goal.walk_target-returns
 walk_target-returns g t c =
     target_used g.W.Width.BITS (says c.args.self.now.zones.now) g.W.FamilyWidth.address c.args.self.now c.args.depth c.args.term c.args.spec.now c.args.purpose
-    c.args.states c.in_ok-entered.entered c.in_ok-found.found c.args.asked.now c.reach_target.new.asked c.place.result c.use_target.result
-    c.place.ensures c.in_ok-entered.ensures c.in_ok-found.ensures c.use_target.ensures
+    c.args.states c.in_ok-entered.entered c.in_ok-found.found c.args.asked.now c.reach_target.new.asked c.place-place.result c.use_target.result
+    c.place-place.ensures c.in_ok-entered.ensures c.in_ok-found.ensures c.use_target.ensures
 
 -- ---- one term
 
