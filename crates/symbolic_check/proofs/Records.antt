@@ -7,7 +7,7 @@ use Rattle.spf_macros.specs.declared.piece.Piece.{Piece}
 use Rattle.spf_grammar.specs.declared.verdict.Verdict.{Verdict}
 use Rattle.spf_grammar.specs.declared.verdict.Verdict.TheVariants.{Neutral}
 use Rattle.spf_grammar.specs.declared.policy.Mechanism.{Mechanism}
-use Rattle.spf_grammar.specs.declared.policy.Mechanism.TheVariants.{All, Include as IncludeOf}
+use Rattle.spf_grammar.specs.declared.policy.Mechanism.TheVariants.{Include as IncludeOf}
 use Rattle.spf_grammar.specs.declared.policy.Term.{Term}
 use Rattle.spf_grammar.specs.declared.policy.Term.TheVariants.{Directive}
 use Rattle.spf_model.specs.declared.outcome.Cause.TheVariants as cause
@@ -92,17 +92,6 @@ pub row_walked : {E : Type 0} (bits : ℕ) (zones : Answering) (address : ℕ �
 row_walked bits zones address scene depth t term row old asked (Err e) one h = h
 row_walked bits zones address scene depth t term row old asked (Ok new) one h =
     subst (λ (terms : List Term). Walks bits zones (terms_stretch address scene depth t terms) old new asked asked) one (h depth t asked)
-
-pub all_walked : {E : Type 0} (bits : ℕ) (zones : Answering) (address : ℕ → Address) (scene : Scene) (depth t : ℕ) (term : Term) (verdict : Verdict) (mechanism : Mechanism) (old : List (Cidr × State)) (asked : List Question) (result : Result (List (Cidr × State)) E)
-    → term ≡ Directive verdict mechanism → mechanism ≡ All
-    → IfOk result (λ new. StepsAt bits (λ a. after_match verdict true) old new)
-    → Walked E bits zones (term_stretch address scene depth t term) old asked asked result
-all_walked {E} bits zones address scene depth t term verdict mechanism old asked result is of h =
-    subst (λ (x : Term). Walked E bits zones (term_stretch address scene depth t x) old asked asked result) (sym is)
-    (subst (λ (m : Mechanism). Walked E bits zones (term_stretch address scene depth t (Directive verdict m)) old asked asked result) (sym of)
-    (stepped bits zones (term_stretch address scene depth t (Directive verdict All)) (λ a. after_match verdict true) old asked result
-    (λ new steps. walks_by_steps bits zones (term_stretch address scene depth t (Directive verdict All)) (λ a. after_match verdict true) old new asked
-    (λ a s. match_moves zones asked verdict true s) steps) h))
 
 pub include_walked : {E : Type 0} (bits : ℕ) (zones : Answering) (address : ℕ → Address) (scene : Scene) (depth t : ℕ) (term : Term) (verdict : Verdict) (mechanism : Mechanism) (spec : List Piece) (old : List (Cidr × State)) (asked more : List Question) (result : Result (List (Cidr × State)) E)
     → term ≡ Directive verdict mechanism → mechanism ≡ IncludeOf spec

@@ -72,7 +72,7 @@ judge_network : (site : Site) (sub : Sub) (t : ℕ) (m : Mechanism) (counts : Co
     → judge site sub t m counts go ≡ go (network_covers m site.address) counts
 judge_network site sub t (Ip4 p) counts go h = refl
 judge_network site sub t (Ip6 p) counts go h = refl
-judge_network site sub t All counts go h = absurd (both_ways false refl h)
+judge_network site sub t All counts go h = refl
 judge_network site sub t (Include spec) counts go h = absurd (both_ways false refl h)
 judge_network site sub t (A spec l m) counts go h = absurd (both_ways false refl h)
 judge_network site sub t (Mx spec l m) counts go h = absurd (both_ways false refl h)

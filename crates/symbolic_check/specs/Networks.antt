@@ -10,11 +10,11 @@ use Rattle.spf_grammar.specs.declared.policy.Mechanism.TheVariants.{All, Include
 use Rattle.spf_grammar.specs.declared.policy.Term.{Term}
 use Rattle.spf_grammar.specs.declared.policy.Term.TheVariants.{Directive, Redirect, Exp, Unknown}
 
--- RFC 7208, section 5.6: a mechanism that asks nothing and matches by the address alone
+-- RFC 7208, sections 5.1 and 5.6: a mechanism that asks nothing and matches by the address alone
 abbrev pub is_network : Mechanism → Bool
 is_network (Ip4 p) = true
 is_network (Ip6 p) = true
-is_network All = false
+is_network All = true
 is_network (Include spec) = false
 is_network (A spec len4 len6) = false
 is_network (Mx spec len4 len6) = false
@@ -24,7 +24,7 @@ is_network (Exists spec) = false
 abbrev pub network_covers : Mechanism → Address → Bool
 network_covers (Ip4 p) a = covers (net.V4 p) a
 network_covers (Ip6 p) a = covers (net.V6 p) a
-network_covers All a = false
+network_covers All a = true
 network_covers (Include spec) a = false
 network_covers (A spec len4 len6) a = false
 network_covers (Mx spec len4 len6) a = false

@@ -1,4 +1,4 @@
-//! A row of directives with networks (RFC 7208, section 5.6), as one trie.
+//! A row of directives with networks or `all` (RFC 7208, sections 5.1 and 5.6), as one trie.
 ghost use Rattle.std.specs.List.{list_any};
 ghost use Rattle.spf_model.specs.Judging.{family_of, address_kind, body_agrees, bodies_of};
 ghost use Rattle.std.specs.Prelude.{◌≡◌, ◌≤◌, ◌<◌, ◌^◌, ℕ, IfOk, OnOk, Some, if◌then◌else◌};
@@ -38,9 +38,9 @@ pub(crate) trait FamilyWidth: Width {
         requires len6 { len6 ≤ 128 }
         ensures { IfOk result (λ set. (a : ℕ) → a < 2 ^ Self.BITS → value_at Self.BITS set a ≡ Some (list_any (body_agrees len4 len6 (address a)) (bodies_of found.now))) };
 
-    /// The network of a mechanism, where it is one of this family.
+    /// The network of a mechanism, where it is one of this family; `all` is that of every address.
     fn network(mechanism: &Mechanism) -> Option<Prefix<Self>>
-        ensures { (a : ℕ) → network_covers mechanism.now (address a) ≡ is_in Self.BITS result a };
+        ensures { (a : ℕ) → a < 2 ^ Self.BITS → network_covers mechanism.now (address a) ≡ is_in Self.BITS result a };
 }
 
 impl FamilyWidth for u32 {
@@ -67,6 +67,7 @@ impl FamilyWidth for u32 {
 
     fn network(mechanism: &Mechanism) -> Option<Prefix<u32>> {
         match mechanism {
+            Mechanism::All => Some(Prefix::new(0u32, 0)),
             Mechanism::Ip4(prefix) => Some(*prefix),
             _ => None,
         }
@@ -97,6 +98,7 @@ impl FamilyWidth for u128 {
 
     fn network(mechanism: &Mechanism) -> Option<Prefix<u128>> {
         match mechanism {
+            Mechanism::All => Some(Prefix::new(0u128, 0)),
             Mechanism::Ip6(prefix) => Some(*prefix),
             _ => None,
         }

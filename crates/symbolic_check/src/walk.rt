@@ -23,19 +23,19 @@ use spf_model::{Cause, Halt, Outcome, redirect_of};
 use std::alloc::AllocError;
 use zone_answers::Questions;
 
-/// Whether a row of networks may have this term: a directive with a network, or a modifier, which is passed over.
+/// Whether a row of networks may have this term: a directive with a network or `all`, or a modifier, which is passed over.
 fn is_row_term(term: &Term) -> bool
     ensures { result ≡ networks.is_row_term term.now }
 {
     match term {
-        Term::Directive(_, Mechanism::Ip4(_) | Mechanism::Ip6(_)) => true,
+        Term::Directive(_, Mechanism::All | Mechanism::Ip4(_) | Mechanism::Ip6(_)) => true,
         Term::Directive(_, _) => false,
         _ => true,
     }
 }
 
 impl Scene<'_> {
-    /// A row of directives with networks (RFC 7208, section 5.6), as one step.
+    /// A row of directives with networks or `all` (RFC 7208, sections 5.1 and 5.6), as one step.
     fn walk_row<W: FamilyWidth>(
         &self,
         row: &[Term],
@@ -164,8 +164,7 @@ impl Scene<'_> {
             return self.walk_row(std::slice::from_ref(term), states);
         };
         match mechanism {
-            Mechanism::All => steps::match_all(self.alloc, states, *verdict, true),
-            Mechanism::Ip4(_) | Mechanism::Ip6(_) => {
+            Mechanism::All | Mechanism::Ip4(_) | Mechanism::Ip6(_) => {
                 self.walk_row(std::slice::from_ref(term), states)
             }
             Mechanism::Include(spec) => {

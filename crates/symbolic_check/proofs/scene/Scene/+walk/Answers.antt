@@ -6,7 +6,7 @@ use Rattle.spf_model.proofs.Terms.{redirect_fits}
 use Rattle.symbolic_check.specs.Scenes.{target_stretch, reached_stretch}
 use Rattle.symbolic_check.proofs.Settling.{walks_idle}
 use Rattle.symbolic_check.proofs.Rows.{walked_none, walked_row, walked_term, walked_all, row_left}
-use Rattle.symbolic_check.proofs.Records.{target_used, reached_stopped, reached_entered, row_walked, all_walked, include_walked, include_fits, fit_at, redirect_walked, neutral_walked, too_deep, record_stopped, record_walked}
+use Rattle.symbolic_check.proofs.Records.{target_used, reached_stopped, reached_entered, row_walked, include_walked, include_fits, fit_at, redirect_walked, neutral_walked, too_deep, record_stopped, record_walked}
 use Rattle.symbolic_check.proofs.scene.Scene.+walk.Goals.{walk_terms-then-not-is_row_term+in_ok-passed+in_ok-walked, walk_terms-else-not-is_row_term}
 use Rattle.symbolic_check.proofs.scene.Scene.+walk.Goals as goal
 
@@ -57,20 +57,15 @@ pub walk_term-walk_target-requires : goal.walk_term-walk_target-requires
 walk_term-walk_target-requires g t c κs within =
     (omega (arith, c.decreases), (within, include_fits c.args.term.now c.in-Directive.verdict c.in-Directive.mechanism c.in-Include.spec c.in-Directive.is c.in-Include.is c.requires))
 
-pub walk_term-returns-in-All : goal.walk_term-returns-in-All
-walk_term-returns-in-All g t c =
-    all_walked g.W.Width.BITS (says c.args.self.now.zones.now) g.W.FamilyWidth.address c.args.self.now c.args.depth c.args.number c.args.term.now c.in-Directive.verdict c.in-Directive.mechanism
-    c.args.states c.args.asked.now c.match_all.result c.in-Directive.is c.in-All.is c.match_all.ensures
-
 pub walk_term-returns-in-Include : goal.walk_term-returns-in-Include
 walk_term-returns-in-Include g t c =
     include_walked g.W.Width.BITS (says c.args.self.now.zones.now) g.W.FamilyWidth.address c.args.self.now c.args.depth c.args.number c.args.term.now c.in-Directive.verdict c.in-Directive.mechanism c.in-Include.spec
     c.args.states c.args.asked.now c.walk_target.new.asked c.walk_target.result c.in-Directive.is c.in-Include.is c.walk_target.ensures
 
-pub walk_term-returns-in-Ip4 : goal.walk_term-returns-in-Ip4
-walk_term-returns-in-Ip4 g t c =
-    row_walked g.W.Width.BITS (says c.args.self.now.zones.now) g.W.FamilyWidth.address c.args.self.now c.args.depth c.args.number c.args.term.now c.from_ref-in-Ip4.result.now
-    c.args.states c.args.asked.now c.walk_row-in-Ip4.result c.from_ref-in-Ip4.ensures.value c.walk_row-in-Ip4.ensures
+pub walk_term-returns-in-All : goal.walk_term-returns-in-All
+walk_term-returns-in-All g t c =
+    row_walked g.W.Width.BITS (says c.args.self.now.zones.now) g.W.FamilyWidth.address c.args.self.now c.args.depth c.args.number c.args.term.now c.from_ref-in-All.result.now
+    c.args.states c.args.asked.now c.walk_row-in-All.result c.from_ref-in-All.ensures.value c.walk_row-in-All.ensures
 
 -- ---- the terms
 
