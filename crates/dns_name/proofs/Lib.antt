@@ -4,3 +4,4 @@ pub mod Wire
 pub mod Octets
 pub mod Splits
 pub mod Printing
+pub mod Texts

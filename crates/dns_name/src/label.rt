@@ -46,8 +46,8 @@ pub(crate) fn is_root_text(text: &[u8]) -> bool
     matches!(text, b".")
 }
 
-/// The text without one final dot.
-pub(crate) fn without_final_dot(text: &[u8]) -> &[u8]
+/// The text without one final dot (RFC 1034, section 3.1).
+pub fn without_final_dot(text: &[u8]) -> &[u8]
     ensures { result.now ≡ without_final is_dot text.now }
 {
     let Some((last, front)) = text.split_last() else {

@@ -8,6 +8,7 @@ mod name;
 mod printed;
 
 pub use fault::NameFault;
+pub use label::without_final_dot;
 pub use name::Name;
 
 #[cfg(test)]

@@ -5,7 +5,7 @@ use Rattle.addr_bits.specs.Width.{cut_of}
 use Rattle.master_reader.specs.declared.record.Body.{Body}
 use Rattle.master_reader.specs.declared.record.Body.TheVariants.{A, Aaaa}
 use Rattle.zone_answers.specs.declared.answer.Answer.{Answer}
-use Rattle.zone_answers.specs.declared.answer.Answer.TheVariants.{Found}
+use Rattle.zone_answers.specs.Answers.{answer_bodies}
 
 -- RFC 7208, sections 5.3 and 5.6: two addresses agree in the first len bits
 abbrev pub agrees : (bits len host a : ℕ) → Bool
@@ -21,11 +21,6 @@ abbrev pub matches6 : (len a : ℕ) → Body → Bool
 matches6 len a (Aaaa host) = agrees 128 len host a
 matches6 len a _ = false
 
--- the bodies of the records of an answer; an answer of another kind has none
-abbrev pub bodies_of : Answer → List Body
-bodies_of (Found bodies) = bodies
-bodies_of _ = []
-
 -- RFC 7208, section 5.3: some record of the answer matches
 abbrev pub is_matched : (Body → Bool) → Answer → Bool
-is_matched matches answer = list_any matches (bodies_of answer)
+is_matched matches answer = list_any matches (answer_bodies answer)

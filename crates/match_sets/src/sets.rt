@@ -1,23 +1,13 @@
 //! The addresses that agree in their first bits with a record of an answer.
 ghost use Rattle.std.specs.Prelude.{◌≡◌, ◌<◌, ◌≤◌, ◌^◌, ℕ, true, Some, IfOk, OnOk, if◌then◌else◌};
 ghost use Rattle.prefix_trie.specs.Leaves.{value_at};
-ghost use Rattle.match_sets.specs.Matched.{agrees, bodies_of, is_matched, matches4, matches6};
+ghost use Rattle.match_sets.specs.Matched.{agrees, is_matched, matches4, matches6};
 
 use addr_bits::{Prefix, Width};
 use master_reader::Body;
 use prefix_trie::TrieMap;
 use std::alloc::{AllocError, Global};
 use zone_answers::Answer;
-
-/// The bodies that were found.
-fn found_bodies(answer: &Answer) -> &[Body]
-    ensures { result.now ≡ bodies_of answer.now }
-{
-    match answer {
-        Answer::Found(bodies) => bodies.as_slice(),
-        _ => &[],
-    }
-}
 
 /// Adds the addresses that agree with the host in the first `len` bits.
 fn add_network<W: Width>(set: &mut TrieMap<W, bool>, host: W, len: u32) -> Result<(), AllocError>
@@ -34,7 +24,7 @@ pub fn match4(alloc: Global, found: &Answer, len: u32) -> Result<TrieMap<u32, bo
     ensures { IfOk result (λ set. (a : ℕ) → a < 2 ^ 32 → value_at 32 set a ≡ Some (is_matched (matches4 len a) found.now)) }
 {
     let mut set = TrieMap::whole(alloc, false)?;
-    let bodies = found_bodies(found);
+    let bodies = found.bodies();
     for i in (0..bodies.len()).rev() {
         if let Body::A(host) = &bodies[i] {
             add_network(&mut set, *host, len)?;
@@ -50,7 +40,7 @@ pub fn match6(alloc: Global, found: &Answer, len: u32) -> Result<TrieMap<u128, b
     ensures { IfOk result (λ set. (a : ℕ) → a < 2 ^ 128 → value_at 128 set a ≡ Some (is_matched (matches6 len a) found.now)) }
 {
     let mut set = TrieMap::whole(alloc, false)?;
-    let bodies = found_bodies(found);
+    let bodies = found.bodies();
     for i in (0..bodies.len()).rev() {
         if let Body::Aaaa(host) = &bodies[i] {
             add_network(&mut set, *host, len)?;

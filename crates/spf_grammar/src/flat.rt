@@ -1,6 +1,5 @@
 //! The terms of flat records: networks and `all`.
-ghost use Rattle.std.specs.Prelude.{◌≡◌, drop};
-ghost use Rattle.addr_bits.specs.Address.{IsAddress};
+ghost use Rattle.std.specs.Prelude.{◌≡◌};
 ghost use Rattle.spf_grammar.specs.Flat.{covers as covers_address, first as first_of};
 
 use crate::Verdict;
@@ -17,6 +16,20 @@ pub enum Net {
     All,
 }
 
+impl Net {
+    /// Whether the network has the address (RFC 7208, sections 5.1 and 5.6).
+    pub fn covers(self, a: Address) -> bool
+        ensures { result ≡ covers_address self a }
+    {
+        match (self, a) {
+            (Net::All, _) => true,
+            (Net::V4(prefix), Address::V4(number)) => prefix.covers(number),
+            (Net::V6(prefix), Address::V6(number)) => prefix.covers(number),
+            _ => false,
+        }
+    }
+}
+
 /// A term that gives its verdict to the addresses of a network.
 #[derive(Clone, Copy, PartialEq, Eq)]
 pub struct FlatTerm {
@@ -26,30 +39,13 @@ pub struct FlatTerm {
     pub net: Net,
 }
 
-/// Whether the network has the address.
-fn covers(net: Net, a: Address) -> bool
-    ensures { result ≡ covers_address net a }
-{
-    match net {
-        Net::All => true,
-        Net::V4(prefix) => match a {
-            Address::V4(number) => prefix.covers(number),
-            Address::V6(_) => false,
-        },
-        Net::V6(prefix) => match a {
-            Address::V4(_) => false,
-            Address::V6(number) => prefix.covers(number),
-        },
-    }
-}
-
 /// The verdict of the first term that has the address, and neutral where none has it (RFC 7208, sections 4.6.2
 /// and 4.7).
 pub fn first(list: &[FlatTerm], a: Address) -> Verdict
     ensures { result ≡ first_of list.now a }
 {
     for term in list {
-        if covers(term.net, a) {
+        if term.net.covers(a) {
             return term.verdict;
         }
     }

@@ -9,23 +9,12 @@ ghost use Rattle.spf_grammar.specs.Reading.{SpellsNumber, SpellsDual, SplitsDual
 
 use crate::bytes::behind;
 use itoa::Buffer;
+use spf_macros::{digit_count, held_number};
 
 fn are_digits(text: &[u8]) -> bool
     ensures { result ≡ list_all is_ascii_digit text.now }
 {
     text.iter().all(|byte| byte.is_ascii_digit())
-}
-
-/// The number that digits make, held at 255.
-fn held_number(digits: &[u8]) -> u8
-    requires { IsTrue (list_all is_ascii_digit digits.now) }
-    ensures { result ≡ min (digits_value 10 digits.now) 255 }
-{
-    let mut number: u8 = 0;
-    for digit in digits {
-        number = number.saturating_mul(10).saturating_add(*digit - b'0');
-    }
-    number
 }
 
 /// Whether the text is the number in decimal digits.
@@ -62,12 +51,6 @@ pub(crate) fn read_len(text: &[u8], slash: &[u8], most: u8) -> Option<u8>
         return None;
     };
     read_number(digits, most)
-}
-
-fn digit_count(text: &[u8]) -> usize
-    ensures { result ≡ prefix_len is_ascii_digit text.now }
-{
-    text.iter().take_while(|byte| byte.is_ascii_digit()).count()
 }
 
 /// The part of two lengths that stands behind one slash, and the rest.

@@ -22,5 +22,6 @@ pub use laws::{one_macro_text, written_macro_text};
 pub use piece::{Letter, Macro, MacroText, Piece};
 pub use read::read_macro_text;
 pub use targets::target;
-pub use words::{is_domain, is_label};
+pub use transformers::{digit_count, held_number};
+pub use words::{are_domain_labels, is_domain, is_label};
 pub use write::write_macro_text;

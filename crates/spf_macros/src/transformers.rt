@@ -14,7 +14,8 @@ fn is_delimiter(byte: u8) -> bool
     matches!(byte, b'.' | b'-' | b'+' | b',' | b'/' | b'_' | b'=')
 }
 
-fn digit_count(text: &[u8]) -> usize
+/// How many digits the text begins with.
+pub fn digit_count(text: &[u8]) -> usize
     ensures { result ≡ prefix_len is_ascii_digit text.now }
 {
     text.iter().take_while(|byte| byte.is_ascii_digit()).count()
@@ -55,7 +56,7 @@ pub(crate) fn read_keep(digits: &[u8]) -> Option<u8>
 }
 
 /// The number that digits make, held at 255.
-fn held_number(digits: &[u8]) -> u8
+pub fn held_number(digits: &[u8]) -> u8
     requires { IsTrue (list_all is_ascii_digit digits.now) }
     ensures { result ≡ min (digits_value 10 digits.now) 255 }
 {

@@ -35,7 +35,8 @@ pub(crate) fn label_count(text: &[u8]) -> usize
     text.split(|byte| *byte == b'.').count()
 }
 
-fn are_domain_labels(text: &[u8]) -> bool
+/// Whether the text is one or more labels of a domain, joined by dots.
+pub fn are_domain_labels(text: &[u8]) -> bool
     ensures { result ≡ list_all words.is_domain_label (slice_split (λ b. b == 46) text.now) }
 {
     text.split(|byte| *byte == b'.')

@@ -28,7 +28,7 @@ use Rattle.spf_model.specs.declared.outcome.Limits.{Limits}
 use Rattle.spf_model.specs.declared.outcome.Outcome.{Outcome}
 use Rattle.spf_model.specs.declared.outcome.Outcome.TheVariants.{Nothing, Is, Perm, Temp, Unsettled}
 use Rattle.spf_model.specs.Run.{Run, Ends, Asks, Reads, Answering, EndsWith, then_do}
-use Rattle.spf_model.specs.Judging.{Site, Sub, Labels, at, name_of, go_if, counted, void_counted, with_text, with_target, with_name, with_host, with_verdict, answered, ask, ask_all, is_void, bodies_of, is_found, is_pass, address_question, some_agrees, match_hosts, exchange_of, judged_by, judge}
+use Rattle.spf_model.specs.Judging.{Site, Sub, Labels, at, name_of, go_if, counted, void_counted, with_text, with_target, with_name, with_host, with_verdict, answered, ask, ask_all, is_void, answer_bodies, is_found, is_pass, address_question, some_agrees, match_hosts, exchange_of, judged_by, judge}
 use Rattle.spf_model.specs.Check.{unless_matched, term_after, trying, tried, redirect_from, default, spf_text_of, with_policy, with_texts, with_answer, with_record, check}
 use Rattle.spf_model.specs.Laws.{DepthSuffices}
 use Rattle.spf_model.proofs.RunLaws.{ends_split, ends_after}
@@ -198,7 +198,7 @@ judge_alike zones n site sub sub' t (A spec l4 l6) c go go' least within subs go
 judge_alike zones n site sub sub' t (Mx spec l4 l6) c go go' least within subs goes =
     with_host_alike zones n site t spec c _ _ least (λ name c' l w.
     ask_alike zones site.limits.lookups n site t c' (record { name = name; kind = kind.Mx }) _ _ l (λ found.
-    let exchanges = filter_map exchange_of (bodies_of found) in
+    let exchanges = filter_map exchange_of (answer_bodies found) in
     go_if_alike zones site.limits.lookups n (nat_le (length exchanges) site.limits.exchanges) (Perm cause.Exchanges (at site t)) c'
     (λ c''. match_hosts site t c'' l4 l6 (is_void found) exchanges go) (λ c''. match_hosts site t c'' l4 l6 (is_void found) exchanges go') l (λ v. v) (λ fits.
     match_hosts_alike zones n site t c' l4 l6 (is_void found) exchanges go go' l w goes)))

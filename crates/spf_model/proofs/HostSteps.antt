@@ -6,7 +6,7 @@ use Rattle.zone_answers.specs.declared.answer.Answer.{Answer}
 use Rattle.spf_model.specs.declared.outcome.Counts.{Counts}
 use Rattle.spf_model.specs.declared.outcome.Halt.{Halt}
 use Rattle.spf_model.specs.Run.{Run, Answering, EndsWith}
-use Rattle.spf_model.specs.Judging.{Site, Labels, ask, ask_all, address_question, is_void, some_agrees, body_agrees, bodies_of, match_hosts, void_counted}
+use Rattle.spf_model.specs.Judging.{Site, Labels, ask, ask_all, address_question, is_void, some_agrees, body_agrees, answer_bodies, match_hosts, void_counted}
 use Rattle.spf_model.specs.Leads.{LeadsTo, HandsOn, Halts}
 use Rattle.spf_model.proofs.Parts.{halts_through}
 
@@ -46,15 +46,15 @@ any_more p (y ∷ xs) x = ap (λ (b : Bool). p y || b) (any_more p xs x) ∙ sym
 pub step : (zones : Answering) (site : Site) (t len4 len6 : ℕ) (before void agrees void' agrees' : Bool) (hosts rest : List Labels) (host : Labels) (found : Answer)
     → AskedSoFar zones site t len4 len6 before void agrees hosts (host ∷ rest)
     → ((counts : Counts) → HandsOn zones (ask site t counts (address_question site.address host)) found)
-    → void' ≡ (void || is_void found) → agrees' ≡ (agrees || list_any (body_agrees len4 len6 site.address) (bodies_of found))
+    → void' ≡ (void || is_void found) → agrees' ≡ (agrees || list_any (body_agrees len4 len6 site.address) (answer_bodies found))
     → AskedSoFar zones site t len4 len6 before void' agrees' hosts rest
 step zones site t len4 len6 before void agrees void' agrees' hosts rest host found so_far on v a = record {
   answers = so_far.answers ++ found ∷ [];
   is_void = v ∙ ap (λ (b : Bool). b || is_void found) so_far.is_void ∙ or_assoc before (list_any is_void so_far.answers) (is_void found)
       ∙ ap (λ (b : Bool). before || b) (ap (λ (b : Bool). list_any is_void so_far.answers || b) (or_false (is_void found)) ∙ sym (any_more is_void so_far.answers found));
-  is_agreeing = a ∙ ap (λ (b : Bool). agrees || b) (or_false (list_any (body_agrees len4 len6 site.address) (bodies_of found)))
+  is_agreeing = a ∙ ap (λ (b : Bool). agrees || b) (or_false (list_any (body_agrees len4 len6 site.address) (answer_bodies found)))
       ∙ ap (λ (b : Bool). b || some_agrees len4 len6 site.address (found ∷ [])) so_far.is_agreeing
-      ∙ sym (any_more (λ x. list_any (body_agrees len4 len6 site.address) (bodies_of x)) so_far.answers found);
+      ∙ sym (any_more (λ x. list_any (body_agrees len4 len6 site.address) (answer_bodies x)) so_far.answers found);
   leads = λ counts go outcome after h.
       so_far.leads counts go outcome after
       (on counts (λ first. questions site rest (λ more. go (so_far.answers ++ first ∷ more)) t counts) outcome after (simp append_assoc at h));

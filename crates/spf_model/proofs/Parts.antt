@@ -18,7 +18,7 @@ use Rattle.spf_model.specs.declared.outcome.Halt.TheVariants.{Ended, Memory}
 use Rattle.spf_model.specs.declared.outcome.Outcome.{Outcome}
 use Rattle.spf_model.specs.declared.outcome.Outcome.TheVariants.{Perm, Temp, Unsettled}
 use Rattle.spf_model.specs.Run.{Run, Ends, Answering, EndsWith}
-use Rattle.spf_model.specs.Judging.{Site, Sub, Labels, judge, at, go_if, counted, void_counted, with_name, with_text, with_target, cause_of, answered, ask, bodies_of, is_void, exchange_of, match_exchanges, match_hosts, with_host, with_domain, name_of}
+use Rattle.spf_model.specs.Judging.{Site, Sub, Labels, judge, at, go_if, counted, void_counted, with_name, with_text, with_target, cause_of, answered, ask, answer_bodies, is_void, exchange_of, match_exchanges, match_hosts, with_host, with_domain, name_of}
 use Rattle.spf_model.specs.Leads.{EndsSo, LeadsTo, HandsOn, NoVerdict, Halts, IsJudged, IsSettled}
 
 -- a test that fails ends the run
@@ -106,21 +106,21 @@ judged_through {A} zones whole part counts (Err halt) leads judged = halts_throu
 
 -- too many exchanges
 pub too_many : (zones : Answering) (site : Site) (t len4 len6 : ℕ) (found : Answer) (c : Counts) (halt : Halt) → halt ≡ Ended (Perm cause.Exchanges (at site t))
-    → site.limits.exchanges < length (filter_map exchange_of (bodies_of found)) → Halts zones (match_exchanges site t c len4 len6 found) halt
+    → site.limits.exchanges < length (filter_map exchange_of (answer_bodies found)) → Halts zones (match_exchanges site t c len4 len6 found) halt
 too_many zones site t len4 len6 found c halt e many =
     subst (λ h. Halts zones (match_exchanges site t c len4 len6 found) h) (sym e) (
       tt,
-      λ go. if_ends zones (nat_le (length (filter_map exchange_of (bodies_of found))) site.limits.exchanges) (Perm cause.Exchanges (at site t)) c _
-          (lt-leb (length (filter_map exchange_of (bodies_of found))) site.limits.exchanges many),
+      λ go. if_ends zones (nat_le (length (filter_map exchange_of (answer_bodies found))) site.limits.exchanges) (Perm cause.Exchanges (at site t)) c _
+          (lt-leb (length (filter_map exchange_of (answer_bodies found))) site.limits.exchanges many),
     )
 
 -- few enough
 pub few_enough : (zones : Answering) (site : Site) (t len4 len6 : ℕ) (found : Answer) (c : Counts) (go : Bool → Counts → Run)
-    → length (filter_map exchange_of (bodies_of found)) ≤ site.limits.exchanges
-    → LeadsTo zones (match_exchanges site t c len4 len6 found go) (match_hosts site t c len4 len6 (is_void found) (filter_map exchange_of (bodies_of found)) go)
+    → length (filter_map exchange_of (answer_bodies found)) ≤ site.limits.exchanges
+    → LeadsTo zones (match_exchanges site t c len4 len6 found go) (match_hosts site t c len4 len6 (is_void found) (filter_map exchange_of (answer_bodies found)) go)
 few_enough zones site t len4 len6 found c go few =
-    if_goes zones (nat_le (length (filter_map exchange_of (bodies_of found))) site.limits.exchanges) (Perm cause.Exchanges (at site t)) c
-    (le-leb (length (filter_map exchange_of (bodies_of found))) site.limits.exchanges few) _
+    if_goes zones (nat_le (length (filter_map exchange_of (answer_bodies found))) site.limits.exchanges) (Perm cause.Exchanges (at site t)) c
+    (le-leb (length (filter_map exchange_of (answer_bodies found))) site.limits.exchanges few) _
 
 -- what a part hands on is what the whole does that it leads on
 pub settled_on : {A : Type 0} (zones : Answering) (whole : (A → Counts → Run) → Run) (part : (A → Run) → Run) (counts : Counts) (result : Result A Halt)

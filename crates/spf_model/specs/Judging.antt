@@ -14,6 +14,7 @@ use Rattle.zone_answers.specs.declared.answer.QKind.TheVariants as kind
 use Rattle.zone_answers.specs.declared.answer.Question.{Question}
 use Rattle.zone_answers.specs.declared.answer.Answer.{Answer}
 use Rattle.zone_answers.specs.declared.answer.Answer.TheVariants as answer
+pub use Rattle.zone_answers.specs.Answers.{answer_bodies}
 use Rattle.spf_macros.specs.declared.piece.Piece.{Piece}
 use Rattle.spf_macros.specs.declared.expansion.Need.{Need}
 use Rattle.spf_macros.specs.declared.expansion.Need.TheVariants as need
@@ -148,13 +149,6 @@ is_void answer.NoData = true
 is_void answer.Loop = false
 is_void (answer.Found bodies) = false
 
-abbrev pub bodies_of : Answer → List Body
-bodies_of answer.Outside = []
-bodies_of answer.NoName = []
-bodies_of answer.NoData = []
-bodies_of answer.Loop = []
-bodies_of (answer.Found bodies) = bodies
-
 abbrev pub is_found : Answer → Bool
 is_found answer.Outside = false
 is_found answer.NoName = false
@@ -183,7 +177,7 @@ body_agrees len4 len6 a (body.Ns name) = false
 body_agrees len4 len6 a body.Other = false
 
 abbrev pub some_agrees : ℕ → ℕ → Address → List Answer → Bool
-some_agrees len4 len6 a answers = list_any (λ found. list_any (body_agrees len4 len6 a) (bodies_of found)) answers
+some_agrees len4 len6 a answers = list_any (λ found. list_any (body_agrees len4 len6 a) (answer_bodies found)) answers
 
 -- RFC 7208, sections 5.3 and 5.4: asks for the addresses of these hosts, counts a void, and goes on with whether one agrees. That
 -- the term had a void answer before counts for its void
@@ -207,7 +201,7 @@ exchange_of body.Other = None
 -- RFC 7208, section 4.6.4: the hosts of an MX answer, of which there may not be more than the limit
 abbrev pub match_exchanges : Site → ℕ → Counts → ℕ → ℕ → Answer → (Bool → Counts → Run) → Run
 match_exchanges site t counts len4 len6 found go =
-    let exchanges = filter_map exchange_of (bodies_of found) in
+    let exchanges = filter_map exchange_of (answer_bodies found) in
     go_if (nat_le (length exchanges) site.limits.exchanges) (Perm cause.Exchanges (at site t)) counts
     (λ counts. match_hosts site t counts len4 len6 (is_void found) exchanges go)
 

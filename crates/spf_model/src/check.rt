@@ -1,7 +1,5 @@
 //! check_host (RFC 7208, section 4): records, their terms, and the records that these ask for.
 ghost use Rattle.std.specs.Prelude.{◌≡◌, ◌+◌, ◌<◌, ◌≤◌, ℕ, Some, IfOk, IsOk, option_map};
-ghost use Rattle.spf_grammar.specs.Flat.{covers};
-ghost use Rattle.spf_grammar.specs.declared.flat.Net.TheVariants as net;
 ghost use Rattle.spf_model.specs.Run.{says};
 ghost use Rattle.spf_model.specs.Judging as judging;
 ghost use Rattle.spf_model.specs.Check as checking;
@@ -13,31 +11,11 @@ use crate::frame::{Frame, name_of};
 use crate::hosts::Lens;
 use crate::outcome::Halt;
 use crate::{Cause, Counts, Limits, Outcome};
-use addr_bits::{Address, Prefix};
-use spf_grammar::{Mechanism, Term, Verdict};
+use addr_bits::Address;
+use spf_grammar::{Mechanism, Net, Term, Verdict};
 use spf_macros::MacroText;
 use std::alloc::{AllocError, Global};
 use zone_answers::Zones;
-
-/// Whether the address is of IPv4 and lies in the network (RFC 7208, section 5.6).
-fn covers4(prefix: Prefix<u32>, address: Address) -> bool
-    ensures { result ≡ covers (net.V4 prefix) address }
-{
-    match address {
-        Address::V4(number) => prefix.covers(number),
-        Address::V6(_) => false,
-    }
-}
-
-/// Whether the address is of IPv6 and lies in the network (RFC 7208, section 5.6).
-fn covers6(prefix: Prefix<u128>, address: Address) -> bool
-    ensures { result ≡ covers (net.V6 prefix) address }
-{
-    match address {
-        Address::V4(_) => false,
-        Address::V6(number) => prefix.covers(number),
-    }
-}
 
 /// Whether a record passes the address (RFC 7208, section 5.2).
 fn is_pass(verdict: Verdict) -> bool
@@ -106,8 +84,8 @@ impl Frame<'_> {
     {
         match mechanism {
             Mechanism::All => Ok(true),
-            Mechanism::Ip4(prefix) => Ok(covers4(*prefix, self.address)),
-            Mechanism::Ip6(prefix) => Ok(covers6(*prefix, self.address)),
+            Mechanism::Ip4(prefix) => Ok(Net::V4(*prefix).covers(self.address)),
+            Mechanism::Ip6(prefix) => Ok(Net::V6(*prefix).covers(self.address)),
             Mechanism::Include(spec) => {
                 let verdict = self.judge_target(term, spec, counts)?;
                 Ok(is_pass(verdict))

@@ -4,6 +4,7 @@ ghost use Rattle.std.specs.List.{list_any};
 ghost use Rattle.spf_macros.specs.declared.piece.Piece.{Piece};
 ghost use Rattle.spf_model.specs.Run.{says};
 ghost use Rattle.spf_model.specs.Judging as judging;
+ghost use Rattle.zone_answers.specs.Answers.{answer_bodies};
 ghost use Rattle.spf_model.specs.Leads.{site_of, IsJudged, TargetFits};
 ghost use Rattle.spf_grammar.specs.declared.policy.Mechanism.TheVariants as mechanism;
 
@@ -17,11 +18,13 @@ use spf_macros::MacroText;
 use std::alloc::{AllocError, Global};
 use zone_answers::{Answer, QKind};
 
-/// How many first bits must agree, for IPv4 and for IPv6.
+/// How many first bits must agree (RFC 7208, section 5.6).
 #[derive(Clone, Copy)]
-pub(crate) struct Lens {
-    pub(crate) len4: u32,
-    pub(crate) len6: u32,
+pub struct Lens {
+    /// For IPv4: 0 to 32.
+    pub len4: u32,
+    /// For IPv6: 0 to 128.
+    pub len6: u32,
 }
 
 /// The kind of record that has the addresses of a name, in the family of the address.
@@ -41,16 +44,6 @@ pub fn is_void(answer: &Answer) -> bool
     matches!(answer, Answer::NoName | Answer::NoData)
 }
 
-/// The bodies that were found; none where the answer is of another kind.
-pub fn bodies_of(answer: &Answer) -> &[Body]
-    ensures { result.now ≡ judging.bodies_of answer.now }
-{
-    match answer {
-        Answer::Found(bodies) => bodies.as_slice(),
-        _ => &[],
-    }
-}
-
 /// Whether the address agrees with the record's in the first bits.
 fn body_agrees(lens: Lens, address: Address, body: &Body) -> bool
     requires len4 { lens.len4 ≤ 32 }
@@ -68,9 +61,10 @@ fn body_agrees(lens: Lens, address: Address, body: &Body) -> bool
 fn answer_agrees(lens: Lens, address: Address, answer: &Answer) -> bool
     requires len4 { lens.len4 ≤ 32 }
     requires len6 { lens.len6 ≤ 128 }
-    ensures { result ≡ list_any (judging.body_agrees lens.len4 lens.len6 address) (judging.bodies_of answer.now) }
+    ensures { result ≡ list_any (judging.body_agrees lens.len4 lens.len6 address) (answer_bodies answer.now) }
 {
-    bodies_of(answer)
+    answer
+        .bodies()
         .iter()
         .any(|body| body_agrees(lens, address, body))
 }
@@ -140,7 +134,7 @@ impl Frame<'_> {
             (judging.match_exchanges (site_of self.now) term counts.old lens.len4 lens.len6 answer.now) counts.new result }
         ensures same { counts.new.lookups ≡ counts.old.lookups }
     {
-        let exchanges = exchanges_of(self.alloc, bodies_of(answer))?;
+        let exchanges = exchanges_of(self.alloc, answer.bodies())?;
         let hosts = exchanges.as_slice();
         if hosts.len() > self.limits.exchanges as usize {
             return Err(self.error(Cause::Exchanges, term));

@@ -13,7 +13,7 @@ mod tests;
 
 pub use check::{check_one, redirect_of};
 pub use frame::{cause_of, name_of};
-pub use hosts::{bodies_of, exchanges_of, is_void};
+pub use hosts::{Lens, exchanges_of, is_void};
 pub use laws::{chains_give_first, depth_suffices, one_end, rests_on_its_questions};
 pub use lines::{write_cause, write_outcome};
 pub use outcome::{Cause, Counts, Halt, Limits, Outcome, Place};

@@ -1,15 +1,13 @@
 //! Words that name a zone and its file.
-ghost use Rattle.std.specs.Prelude.{◌≡◌, ◌==◌, ℕ, ◌<◌, List, length, IfOk, MatchOption, bytes_eq};
-ghost use Rattle.std.specs.List.{list_all, list_any, slice_split};
+ghost use Rattle.std.specs.Prelude.{◌≡◌, ℕ, ◌<◌, List, length, IfOk, MatchOption, bytes_eq};
+ghost use Rattle.std.specs.List.{list_any};
 ghost use Rattle.std.specs.Cmp.Lexicographic.{pointwise};
-ghost use Rattle.dns_name.specs.Name.{is_dot};
-ghost use Rattle.dns_name.specs.Parts.{without_final};
-ghost use Rattle.spf_macros.specs.Words as domains;
 ghost use Rattle.spfc_words.specs.Words as words;
 ghost use Rattle.spfc_words.specs.Words.{texts, origin_in, file_in, IsOrigin, IsZoneWord, AreZoneWords};
 
 use addr_bits::{Bytes, Items};
-use dns_name::Name;
+use dns_name::{Name, without_final_dot};
+use spf_macros::are_domain_labels;
 use std::alloc::{AllocError, Global};
 
 /// The most zones of a job.
@@ -96,43 +94,5 @@ fn read_origin(text: &[u8]) -> Option<Name>
 fn is_origin(text: &[u8]) -> bool
     ensures { result ≡ words.is_origin text.now }
 {
-    matches!(text, b".") || are_labels(without_final_dot(text))
-}
-
-fn without_final_dot(text: &[u8]) -> &[u8]
-    ensures { result.now ≡ without_final is_dot text.now }
-{
-    let Some((last, front)) = text.split_last() else {
-        return text;
-    };
-    if *last == b'.' { front } else { text }
-}
-
-fn are_labels(text: &[u8]) -> bool
-    ensures { result ≡ list_all domains.is_domain_label (slice_split (λ b. b == 46) text.now) }
-{
-    text.split(|byte| *byte == b'.')
-        .all(|label| is_label(label))
-}
-
-// A label of 1 to 63 letters, digits, hyphens and underscores that begins with no hyphen.
-fn is_label(label: &[u8]) -> bool
-    ensures { result ≡ domains.is_domain_label label.now }
-{
-    if label.is_empty() || label.len() > 63 || label[0] == b'-' {
-        return false;
-    }
-    are_word_bytes(label)
-}
-
-fn are_word_bytes(text: &[u8]) -> bool
-    ensures { result ≡ list_all domains.is_word_byte text.now }
-{
-    text.iter().all(|byte| is_word_byte(*byte))
-}
-
-fn is_word_byte(byte: u8) -> bool
-    ensures { result ≡ domains.is_word_byte byte }
-{
-    byte.is_ascii_alphanumeric() || byte == b'-' || byte == b'_'
+    matches!(text, b".") || are_domain_labels(without_final_dot(text))
 }

@@ -20,7 +20,7 @@ use Rattle.spf_model.specs.declared.outcome.Halt.{Halt}
 use Rattle.spf_model.specs.declared.outcome.Halt.TheVariants.{Ended, Memory}
 use Rattle.spf_model.specs.declared.outcome.Outcome.TheVariants.{Perm}
 use Rattle.spf_model.specs.Run.{Run, Ends, Answering, AsksFor}
-use Rattle.spf_model.specs.Judging.{Labels, go_if, ask_all, address_kind, address_question, exchange_of, bodies_of, is_void}
+use Rattle.spf_model.specs.Judging.{Labels, go_if, ask_all, address_kind, address_question, exchange_of, answer_bodies, is_void}
 use Rattle.symbolic_check.specs.declared.gathered.Gathered.{Gathered}
 use Rattle.symbolic_check.specs.declared.scene.Scene.{Scene}
 use Rattle.symbolic_check.specs.Walk.{Follows}
@@ -85,7 +85,7 @@ pub record GatheredSoFar (zones : Answering) (scene : Scene) (address : ℕ → 
     (hosts rest : List Labels) (asked more : List Question) : Type 0 where
   pub answers : List Answer
   pub is_void : void ≡ (before || list_any is_void answers)
-  pub is_bodies : bodies ≡ flat_map bodies_of answers
+  pub is_bodies : bodies ≡ flat_map answer_bodies answers
   pub passes : (a : ℕ) (counts : Counts) (go : List Answer → Run)
       → Follows zones more (hosts_part scene address t kind hosts a counts go) (hosts_part scene address t kind rest a counts (λ later. go (answers ++ later)))
   pub adds : Adds zones (hosts_part scene address t kind hosts) asked more
@@ -119,14 +119,14 @@ pub step : (zones : Answering) (scene : Scene) (address : ℕ → Address) (t : 
     (asked mid more : List Question)
     → GatheredSoFar zones scene address t kind before void bodies hosts (host ∷ rest) asked mid
     → Settles zones (ask_part scene address t (kind_question kind host)) mid more (Ok found)
-    → void' ≡ (void || is_void found) → bodies' ≡ bodies ++ bodies_of found
+    → void' ≡ (void || is_void found) → bodies' ≡ bodies ++ answer_bodies found
     → GatheredSoFar zones scene address t kind before void' bodies' hosts rest asked more
 step zones scene address t kind before void void' bodies bodies' hosts rest host found asked mid more so_far on v b = record {
   answers = so_far.answers ++ found ∷ [];
   is_void = v ∙ ap (λ (x : Bool). x || is_void found) so_far.is_void ∙ or_assoc before (list_any is_void so_far.answers) (is_void found)
       ∙ ap (λ (x : Bool). before || x) (ap (λ (x : Bool). list_any is_void so_far.answers || x) (sym (or-false (is_void found))) ∙ sym (list_any-append is_void so_far.answers (found ∷ [])));
-  is_bodies = b ∙ ap (λ (x : List Body). x ++ bodies_of found) so_far.is_bodies
-      ∙ ap (λ (x : List Body). flat_map bodies_of so_far.answers ++ x) (sym (append-nil (bodies_of found))) ∙ sym (flat_map-append bodies_of so_far.answers (found ∷ []));
+  is_bodies = b ∙ ap (λ (x : List Body). x ++ answer_bodies found) so_far.is_bodies
+      ∙ ap (λ (x : List Body). flat_map answer_bodies so_far.answers ++ x) (sym (append-nil (answer_bodies found))) ∙ sym (flat_map-append answer_bodies so_far.answers (found ∷ []));
   passes = λ a counts go.
       let first : Follows zones mid (hosts_part scene address t kind hosts a counts go) (hosts_part scene address t kind (host ∷ rest) a counts (λ (later : List Answer). go (so_far.answers ++ later)))
       = so_far.passes a counts go in
@@ -209,14 +209,14 @@ exchanges_part scene address t found a counts go = gather_exchanges (site_at sce
 
 -- few enough
 pub few_enough : (zones : Answering) (scene : Scene) (address : ℕ → Address) (t : ℕ) (found : Answer) (result : Result Gathered Halt) (asked more : List Question)
-    → length (filter_map exchange_of (bodies_of found)) ≤ scene.limits.exchanges
-    → SettlesBy IsGathered zones (family_part scene address t (is_void found) (filter_map exchange_of (bodies_of found))) asked more result
+    → length (filter_map exchange_of (answer_bodies found)) ≤ scene.limits.exchanges
+    → SettlesBy IsGathered zones (family_part scene address t (is_void found) (filter_map exchange_of (answer_bodies found))) asked more result
     → SettlesBy IsGathered zones (exchanges_part scene address t found) asked more result
 few_enough zones scene address t found result asked more few h =
-    gathers_same IsGathered zones asked more (exchanges_part scene address t found) (family_part scene address t (is_void found) (filter_map exchange_of (bodies_of found))) result
+    gathers_same IsGathered zones asked more (exchanges_part scene address t found) (family_part scene address t (is_void found) (filter_map exchange_of (answer_bodies found))) result
     (λ a counts go. ap (λ (test : Bool). go_if test (Perm cause.Exchanges (record { name = scene.name.now; term = t })) counts
-    (λ counts. family_part scene address t (is_void found) (filter_map exchange_of (bodies_of found)) a counts go))
-    (le-leb (length (filter_map exchange_of (bodies_of found))) scene.limits.exchanges few)) h
+    (λ counts. family_part scene address t (is_void found) (filter_map exchange_of (answer_bodies found)) a counts go))
+    (le-leb (length (filter_map exchange_of (answer_bodies found))) scene.limits.exchanges few)) h
 
 -- ---- `a` and `mx`
 

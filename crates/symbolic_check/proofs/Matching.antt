@@ -19,7 +19,7 @@ use Rattle.spf_model.specs.declared.outcome.Counts.{Counts}
 use Rattle.spf_model.specs.declared.outcome.Outcome.TheVariants.{Perm, Unsettled}
 use Rattle.spf_model.specs.declared.outcome.Place.{Place}
 use Rattle.spf_model.specs.Run.{Run, Ends, Answering}
-use Rattle.spf_model.specs.Judging.{Site, at, counted, void_counted, go_if, ask, ask_all, address_question, match_hosts, match_exchanges, exchange_of, body_agrees, bodies_of, some_agrees, is_void, is_found}
+use Rattle.spf_model.specs.Judging.{Site, at, counted, void_counted, go_if, ask, ask_all, address_question, match_hosts, match_exchanges, exchange_of, body_agrees, answer_bodies, some_agrees, is_void, is_found}
 use Rattle.spf_model.specs.Check.{unless_matched}
 use Rattle.symbolic_check.specs.declared.gathered.Gathered.{Gathered}
 use Rattle.symbolic_check.specs.declared.scene.Scene.{Scene}
@@ -95,7 +95,7 @@ judge_hosts_at scene address t verdict len4 len6 a counts found go = judge_hosts
 pub hosts_walk : (bits : ℕ) (zones : Answering) (scene : Scene) (address : ℕ → Address) (t : ℕ) (verdict : Verdict) (len4 len6 : ℕ) (place : Place) (gathered : Gathered)
     (set : List (Cidr × Bool)) (old between new : List (Cidr × State)) (part : PartOf Found) (asked more : List Question)
     → place ≡ record { name = scene.name.now; term = t } → StepsAt bits (λ a. after_void scene.limits place gathered.void) old between
-    → ((a : ℕ) → a < 2 ^ bits → value_at bits set a ≡ Some (list_any (body_agrees len4 len6 (address a)) (bodies_of gathered.found)))
+    → ((a : ℕ) → a < 2 ^ bits → value_at bits set a ≡ Some (list_any (body_agrees len4 len6 (address a)) (answer_bodies gathered.found)))
     → StepsWith bits (after_match verdict) set between new
     → SettlesBy IsGathered zones part asked more (Ok gathered) → SomeLive bits old
     → Walks bits zones (λ a counts go. part a counts (λ found. judge_hosts (site_at scene (address a)) t verdict len4 len6 found counts go)) old new asked more
@@ -107,7 +107,7 @@ hosts_walk bits zones scene address t verdict len4 len6 place gathered set old b
     (set_walks bits zones verdict (λ a. some_agrees len4 len6 (address a) settles.0.1) set between new more
     (λ a below. is_set a below
     ∙ ap (λ (bodies : List Body). Some (list_any (body_agrees len4 len6 (address a)) bodies)) settles.1.bodies
-    ∙ ap Some (any_flat (body_agrees len4 len6 (address a)) bodies_of settles.0.1)) match_steps))
+    ∙ ap Some (any_flat (body_agrees len4 len6 (address a)) answer_bodies settles.0.1)) match_steps))
 
 abbrev pub judge_found_at : Scene → (ℕ → Address) → ℕ → Verdict → ℕ → Counts → Answer → (Counts → Run) → Run
 judge_found_at scene address t verdict a counts found go = judge_found (site_at scene (address a)) t verdict found counts go
@@ -139,12 +139,12 @@ a_walk bits zones scene address depth t verdict spec len4 len6 old between new a
 -- gathering goes on with the counts that the exchanges were counted at
 exchanges_same : (site : Site) (t : ℕ) (verdict : Verdict) (len4 len6 : ℕ) (found : Answer) (counts : Counts) (go : Counts → Run)
     → gather_exchanges site t found counts (λ hosts. judge_hosts site t verdict len4 len6 hosts counts go) ≡ match_exchanges site t counts len4 len6 found (unless_matched verdict go)
-exchanges_same site t verdict len4 len6 found counts go = by_test (nat_le (length (filter_map exchange_of (bodies_of found))) site.limits.exchanges)
+exchanges_same site t verdict len4 len6 found counts go = by_test (nat_le (length (filter_map exchange_of (answer_bodies found))) site.limits.exchanges)
   where
     by_test : (test : Bool)
-        → go_if test (Perm cause.Exchanges (at site t)) counts (λ counts'. ask_all site t counts' (map (address_question site.address) (filter_map exchange_of (bodies_of found)))
+        → go_if test (Perm cause.Exchanges (at site t)) counts (λ counts'. ask_all site t counts' (map (address_question site.address) (filter_map exchange_of (answer_bodies found)))
         (λ answers. judge_hosts site t verdict len4 len6 (is_void found, answers) counts go))
-        ≡ go_if test (Perm cause.Exchanges (at site t)) counts (λ counts'. match_hosts site t counts' len4 len6 (is_void found) (filter_map exchange_of (bodies_of found)) (unless_matched verdict go))
+        ≡ go_if test (Perm cause.Exchanges (at site t)) counts (λ counts'. match_hosts site t counts' len4 len6 (is_void found) (filter_map exchange_of (answer_bodies found)) (unless_matched verdict go))
     by_test true = refl
     by_test false = refl
 

@@ -9,7 +9,7 @@ use Rattle.spf_model.specs.declared.outcome.Cause.TheVariants as cause
 use Rattle.spf_model.specs.declared.outcome.Counts.{Counts}
 use Rattle.spf_model.specs.declared.outcome.Outcome.TheVariants.{Perm, Unsettled}
 use Rattle.spf_model.specs.Run.{Run}
-use Rattle.spf_model.specs.Judging.{Labels, Site, at, with_target, with_name, name_of, ask, ask_all, go_if, address_question, exchange_of, bodies_of, is_void, is_found, some_agrees, void_counted}
+use Rattle.spf_model.specs.Judging.{Labels, Site, at, with_target, with_name, name_of, ask, ask_all, go_if, address_question, exchange_of, answer_bodies, is_void, is_found, some_agrees, void_counted}
 use Rattle.spf_model.specs.Check.{unless_matched}
 use Rattle.symbolic_check.specs.declared.gathered.Gathered.{Gathered}
 use Rattle.symbolic_check.specs.Walk.{Stretch}
@@ -36,7 +36,7 @@ gather_a site t spec counts go =
 -- RFC 7208, section 5.4: the answers of the exchanges that were found
 abbrev pub gather_exchanges : Site → ℕ → Answer → Counts → (Found → Run) → Run
 gather_exchanges site t found counts go =
-    let exchanges = filter_map exchange_of (bodies_of found) in
+    let exchanges = filter_map exchange_of (answer_bodies found) in
     go_if (nat_le (length exchanges) site.limits.exchanges) (Perm cause.Exchanges (at site t)) counts
     (λ counts. ask_all site t counts (map (address_question site.address) exchanges) (λ answers. go (is_void found, answers)))
 
@@ -53,7 +53,7 @@ gather_exists site t spec counts go =
 -- what is kept of answers: whether one was void, and all bodies
 pub record IsGathered (gathered : Gathered) (found : Found) : Type 0 where
   pub void : gathered.void ≡ (found.0 || list_any is_void found.1)
-  pub bodies : bodies_of gathered.found ≡ flat_map bodies_of found.1
+  pub bodies : answer_bodies gathered.found ≡ flat_map answer_bodies found.1
 
 -- RFC 7208, sections 4.6.4, 5.3 and 5.4: counts the void, and then the directive matches where one of the addresses agrees
 abbrev pub judge_hosts : Site → ℕ → Verdict → ℕ → ℕ → Found → Stretch

@@ -2,6 +2,7 @@
 ghost use Rattle.std.specs.Prelude.{◌≡◌, ◌++◌, OnOk, Some, map, option_map};
 ghost use Rattle.spf_model.specs.Run.{says};
 ghost use Rattle.spf_model.specs.Judging as judging;
+ghost use Rattle.zone_answers.specs.Answers.{answer_bodies};
 ghost use Rattle.spf_model.specs.Leads.{TargetFits};
 ghost use Rattle.symbolic_check.specs.Settling.{site_at, Settles, SettlesBy};
 ghost use Rattle.symbolic_check.specs.Hosts.{gather_a, gather_mx, gather_exchanges, gather_exists, IsGathered};
@@ -10,7 +11,7 @@ use crate::networks::FamilyWidth;
 use crate::scene::Scene;
 use dns_name::Name;
 use spf_macros::MacroText;
-use spf_model::{Cause, Halt, bodies_of, exchanges_of, is_void};
+use spf_model::{Cause, Halt, exchanges_of, is_void};
 use std::alloc::AllocError;
 use zone_answers::{Answer, Bodies, QKind, Questions};
 
@@ -25,7 +26,7 @@ pub(crate) struct Gathered {
 
 /// Moves the bodies that were found to the end of a list.
 fn move_bodies(answer: Answer, bodies: &mut Bodies) -> Result<(), AllocError>
-    ensures { OnOk result (bodies.new ≡ bodies.old ++ judging.bodies_of answer) }
+    ensures { OnOk result (bodies.new ≡ bodies.old ++ answer_bodies answer) }
 {
     if let Answer::Found(found) = answer {
         for body in found.into_vec() {
@@ -70,7 +71,7 @@ impl Scene<'_> {
         ensures { SettlesBy IsGathered (says self.now.zones.now)
             (λ a counts. gather_exchanges (site_at self.now (W.address a)) term found.now counts) asked.old asked.new result }
     {
-        let exchanges = exchanges_of(self.alloc, bodies_of(found))?;
+        let exchanges = exchanges_of(self.alloc, found.bodies())?;
         let hosts = exchanges.as_slice();
         if hosts.len() > self.limits.exchanges as usize {
             return Err(self.error(Cause::Exchanges, term));

@@ -21,16 +21,9 @@ use crate::steps;
 use crate::steps::States;
 use spf_grammar::Verdict;
 use spf_macros::MacroText;
-use spf_model::{Cause, Halt, Outcome, is_void};
+use spf_model::{Cause, Halt, Lens, Outcome, is_void};
 use std::alloc::AllocError;
 use zone_answers::{Answer, Questions};
-
-/// How many first bits must agree, for IPv4 and for IPv6.
-#[derive(Clone, Copy)]
-pub(crate) struct Lens {
-    pub(crate) len4: u32,
-    pub(crate) len6: u32,
-}
 
 /// Whether something was found (RFC 7208, section 5.7).
 fn is_found(answer: &Answer) -> bool

@@ -1,6 +1,6 @@
 //! A row of directives with networks or `all` (RFC 7208, sections 5.1 and 5.6), as one trie.
 ghost use Rattle.std.specs.List.{list_any};
-ghost use Rattle.spf_model.specs.Judging.{family_of, address_kind, body_agrees, bodies_of};
+ghost use Rattle.spf_model.specs.Judging.{family_of, address_kind, body_agrees, answer_bodies};
 ghost use Rattle.std.specs.Prelude.{◌≡◌, ◌≤◌, ◌<◌, ◌^◌, ℕ, IfOk, OnOk, Some, if◌then◌else◌};
 ghost use Rattle.prefix_trie.specs.Leaves.{value_at};
 ghost use Rattle.symbolic_check.specs.Networks.{network_covers, first_network, with_first, is_in};
@@ -36,7 +36,7 @@ pub(crate) trait FamilyWidth: Width {
     ) -> Result<TrieMap<Self, bool>, AllocError>
         requires len4 { len4 ≤ 32 }
         requires len6 { len6 ≤ 128 }
-        ensures { IfOk result (λ set. (a : ℕ) → a < 2 ^ Self.BITS → value_at Self.BITS set a ≡ Some (list_any (body_agrees len4 len6 (address a)) (bodies_of found.now))) };
+        ensures { IfOk result (λ set. (a : ℕ) → a < 2 ^ Self.BITS → value_at Self.BITS set a ≡ Some (list_any (body_agrees len4 len6 (address a)) (answer_bodies found.now))) };
 
     /// The network of a mechanism, where it is one of this family; `all` is that of every address.
     fn network(mechanism: &Mechanism) -> Option<Prefix<Self>>

@@ -11,7 +11,6 @@ ghost use Rattle.symbolic_check.specs.Networks as networks;
 ghost use Rattle.symbolic_check.specs.Walk.{Walks};
 ghost use Rattle.symbolic_check.specs.Scenes.{number_after, term_stretch, terms_stretch, default_stretch, record_stretch, target_stretch, reached_stretch};
 
-use crate::hosts::Lens;
 use crate::networks::{FamilyWidth, first_networks};
 use crate::scene::Scene;
 use crate::state::Purpose;
@@ -19,7 +18,7 @@ use crate::steps;
 use crate::steps::States;
 use spf_grammar::{Mechanism, Term, Verdict};
 use spf_macros::MacroText;
-use spf_model::{Cause, Halt, Outcome, redirect_of};
+use spf_model::{Cause, Halt, Lens, Outcome, redirect_of};
 use std::alloc::AllocError;
 use zone_answers::Questions;
 

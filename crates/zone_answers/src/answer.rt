@@ -1,4 +1,6 @@
 //! Questions and answers.
+ghost use Rattle.std.specs.Prelude.{◌≡◌};
+ghost use Rattle.zone_answers.specs.Answers.{answer_bodies};
 
 use addr_bits::Items;
 use dns_name::Name;
@@ -43,6 +45,18 @@ pub enum Answer {
 
     /// The bodies of the records of this kind, in the order of the file.
     Found(Bodies),
+}
+
+impl Answer {
+    /// The bodies that were found; none where the answer is of another kind.
+    pub fn bodies(&self) -> &[Body]
+        ensures { result.now ≡ answer_bodies self.now }
+    {
+        match self {
+            Answer::Found(bodies) => bodies.as_slice(),
+            _ => &[],
+        }
+    }
 }
 
 /// What one zone says to a question.

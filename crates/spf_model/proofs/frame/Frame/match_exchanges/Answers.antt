@@ -4,7 +4,7 @@ use Rattle.std.proofs.lemmas.List.{length-map}
 use Rattle.dns_name.specs.declared.name.Name.{Name}
 use Rattle.master_reader.specs.declared.record.Body.{Body}
 use Rattle.spf_model.specs.Run.{says}
-use Rattle.spf_model.specs.Judging.{bodies_of, exchange_of, match_exchanges, match_hosts, is_void}
+use Rattle.spf_model.specs.Judging.{answer_bodies, exchange_of, match_exchanges, match_hosts, is_void}
 use Rattle.spf_model.specs.Leads.{site_of}
 use Rattle.spf_model.proofs.Parts.{too_many, few_enough, judged_through}
 use Rattle.spf_model.proofs.frame.Frame.match_exchanges.Goals as goal
@@ -22,7 +22,7 @@ returns-clause-judged c =
     let n = sym (length-map c.as_slice-hosts.result.now (λ (name : Bor Name). name.now)) ∙ ap length e in
     judged_through (says c.args.self.now.zones.now)
     (match_exchanges (site_of c.args.self.now) c.args.term c.args.counts.now c.args.lens.len4 c.args.lens.len6 c.args.answer.now)
-    (match_hosts (site_of c.args.self.now) c.args.term c.args.counts.now c.args.lens.len4 c.args.lens.len6 (is_void c.args.answer.now) (filter_map exchange_of (bodies_of c.args.answer.now)))
+    (match_hosts (site_of c.args.self.now) c.args.term c.args.counts.now c.args.lens.len4 c.args.lens.len6 (is_void c.args.answer.now) (filter_map exchange_of (answer_bodies c.args.answer.now)))
     c.match_hosts.new.counts c.match_hosts.result
     (λ go. few_enough (says c.args.self.now.zones.now) (site_of c.args.self.now) c.args.term c.args.lens.len4 c.args.lens.len6 c.args.answer.now c.args.counts.now go
     (subst (λ (k : ℕ). k ≤ c.args.self.now.limits.exchanges) n c.if-hosts-self.false))
