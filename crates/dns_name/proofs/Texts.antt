@@ -1,4 +1,20 @@
 -- The labels of a text: in lower case, on the wire, and as a name.
+use Rattle.std.proofs.Common.{◌≡◌, ℕ, ◌+◌, ◌≤◌, ◌==◌, Bool, true, false, cond, nat_lt, IsOk, List, [], ◌∷◌, length, map, bytes_eq, Ok, Err, None, inl, inr, refl, sym, ap, subst, ◌∙◌, arith, le-ltb, ne_eqb}
+use Rattle.std.specs.List.{slice_split, onto_first}
+use Rattle.std.specs.Char.{is_ascii_alphabetic, to_ascii_lowercase}
+use Rattle.std.specs.Int.{is_in_range}
+use Rattle.std.specs.Prelude.{nat_le}
+use Rattle.std.specs.Str.{str_to_ascii_lowercase}
+use Rattle.std.proofs.lemmas.Bool.{and_from, or_left, or_right, le-leb, cases_lt, true≢false}
+use Rattle.std.proofs.lemmas.Str.Ascii.{lowercase_is}
+use Rattle.std.proofs.lemmas.Slice.Eq.{bytes_eq-Decides}
+use Rattle.std.proofs.lemmas.List.Splits.{slice_split-cons_yes, slice_split-cons_no}
+use Rattle.dns_name.specs.declared.fault.NameFault.TheVariants.{NameLong}
+use Rattle.dns_name.specs.Parts.{without_final}
+use Rattle.dns_name.specs.Wire.{wire_form}
+use Rattle.dns_name.specs.Name.{lowercase_label, label_fault, first_fault, fault_or, name_of_labels, name_of_text, is_dot}
+use Rattle.dns_name.proofs.Names.{parts_of}
+
 -- ---- bytes in lower case
 upper_is_letter : (b : ℕ) → 65 ≤ b → b ≤ 90 → is_ascii_alphabetic b ≡ true
 upper_is_letter b low high = or_left (is_in_range 65 90 b) (is_in_range 97 122 b) (and_from (nat_le 65 b) (nat_le b 90) (le-leb 65 b low) (le-leb b 90 high))
