@@ -1,11 +1,11 @@
 #!/usr/bin/env python3
-"""Random networks: as the zone of a policy with eight included lists, and as lists.
+"""Zones to measure, each with the origin trial.example.
 
-    generate.py zone START N      the zone trial.example, its policy, and the eight lists that it includes
-    generate.py list START N      its networks in order as one flat first-match list, with qualifiers, then ~all (no includes)
-    generate.py list4 START N     the same, its IPv4 networks alone: draws go on until N IPv4 networks are there
-    generate.py cidr4 START N     the N IPv4 networks of list4, one a line, without qualifiers: what aggregate, iprange .. can read
-    generate.py cidr6 START N     N IPv6 networks, one a line
+    generate.py zone START N    a policy, and eight lists of N random networks in all, which it includes
+    generate.py comment N       N bytes `;`, which are no record
+    generate.py records N       N records: a policy that asks for four names, and hosts with one address each
+    generate.py addresses N     a policy that asks for one host, and N addresses of this host
+    generate.py exchanges N     a policy with an `mx` term, and N exchanges, each with an address of both families
 """
 import ipaddress, sys
 M64 = (1 << 64) - 1
@@ -22,23 +22,27 @@ def draws(x):
         i += 1
 def term(q, bits, a, n): return '%s%s:%s%s' % (q, 'ip4' if bits == 32 else 'ip6', a, '' if n == bits else '/%d' % n)
 def quoted(t): return ' '.join('"%s"' % t[i:i + 255] for i in range(0, len(t), 255))
-def main(mode, start, n):
-    if mode == 'zone':
-        rec = [[] for _ in range(8)]
-        for i, q, b, a, l in draws(start):
-            if i == n: break
-            rec[i % 8].append(term(q, b, a, l))
-        print('@ TXT "v=spf1 %s ~all"' % ' '.join('include:n%d.trial.example' % k for k in range(8)))
-        for k in range(8): print('n%d TXT %s' % (k, quoted(' '.join(['v=spf1'] + rec[k] + ['?all']))))
-        return
-    out, got = [], 0
+def host4(k): return ipaddress.IPv4Address((10 << 24) + k)
+def host6(k): return ipaddress.IPv6Address((0x20010db8 << 96) + k)
+def zone(start, n):
+    rec = [[] for _ in range(8)]
     for i, q, b, a, l in draws(start):
-        if got == n: break
-        if mode in ('list4', 'cidr4') and b != 32 or mode == 'cidr6' and b != 128: continue
-        got += 1
-        out.append(term(q, b, a, l) if mode.startswith('list') else '%s/%d' % (a, l))
-    print('\n'.join(out))
-    if mode.startswith('list'): print('~all')
+        if i == n: break
+        rec[i % 8].append(term(q, b, a, l))
+    print('@ TXT "v=spf1 %s ~all"' % ' '.join('include:n%d.trial.example' % k for k in range(8)))
+    for k in range(8): print('n%d TXT %s' % (k, quoted(' '.join(['v=spf1'] + rec[k] + ['?all']))))
+def comment(n): sys.stdout.write(';' * n)
+def records(n):
+    print('@ TXT "v=spf1 a:h0.trial.example a:h1.trial.example a:h2.trial.example -all"')
+    for k in range(n - 1): print('h%d A %s' % (k, host4(k)))
+def addresses(n):
+    print('@ TXT "v=spf1 a:h.trial.example -all"')
+    for k in range(n): print('h A %s' % host4(k))
+def exchanges(n):
+    print('@ TXT "v=spf1 mx -all"')
+    for k in range(n): print('@ MX 10 h%d\nh%d A %s\nh%d AAAA %s' % (k, k, host4(k), k, host6(k)))
+MODES = {'zone': (zone, 2), 'comment': (comment, 1), 'records': (records, 1), 'addresses': (addresses, 1), 'exchanges': (exchanges, 1)}
 if __name__ == '__main__':
-    if len(sys.argv) != 4: sys.exit(__doc__)
-    main(sys.argv[1], int(sys.argv[2]), int(sys.argv[3]))
+    mode, count = MODES.get(sys.argv[1] if len(sys.argv) > 1 else '', (None, 0))
+    if mode is None or len(sys.argv) != 2 + count: sys.exit(__doc__)
+    mode(*map(int, sys.argv[2:]))
