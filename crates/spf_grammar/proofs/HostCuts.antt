@@ -1,8 +1,8 @@
 -- A text is cut into a domain-spec and lengths in one way, and a network into an address and a length.
-use Rattle.std.proofs.Common.{◌≡◌, ◌≢◌, ℕ, ◌+◌, ◌<◌, ◌≤◌, nat_lt, true, false, ◌&&◌, ◌||◌, ◌⊎◌, List, [], ◌∷◌, ◌++◌, length, take, drop, get_or, refl, sym, ◌∙◌, ap, subst, inl, inr, append_assoc, append-nil, length-append, length-take-le, arith, lit≤, Option, Some, None, if◌then◌else◌}
+use Rattle.std.proofs.Common.{◌≡◌, ◌≢◌, ℕ, ◌+◌, ◌<◌, ◌≤◌, nat_lt, true, false, ◌&&◌, ◌||◌, ◌⊎◌, List, [], ◌∷◌, ◌++◌, length, take, drop, get_or, refl, sym, ◌∙◌, ap, subst, inl, inr, append_assoc, append-nil, length-append, length-take-le, take_at, drop_at, arith, lit≤, Option, Some, None, if◌then◌else◌}
 use Rattle.std.proofs.lemmas.Bool.{and_parts, and_from, and_left, or_left, or_right, or_from, or_cases, cases_Bool, both_ways, eqb-true, ltb-true, ltb-false, cond_both, false_from_ne_true}
 use Rattle.std.proofs.lemmas.List.{take_more}
-use Rattle.std.specs.Prelude.{◌==◌, codes, Result, Ok, Err, IfOk}
+use Rattle.std.specs.Prelude.{◌==◌, codes}
 use Rattle.std.specs.Char.{is_ascii_digit}
 use Rattle.std.specs.List.{list_all}
 use Rattle.spf_macros.specs.declared.piece.Piece.{Piece}
@@ -142,13 +142,6 @@ hosts_read text front lens spec p l m s target (after4, after6, short4, short6, 
   whole = s.whole ∙ ap (λ t. front ++ t) e;
 }
 
--- ---- results
-
--- what holds of each value in an Ok, under what it follows from
-pub if_ok : {A E : Type 0} (P Q : A → Type 0) (r : Result A E) → ((a : A) → P a → Q a) → IfOk r P → IfOk r Q
-if_ok P Q (Ok a) f h = f a h
-if_ok P Q (Err e) f h = h
-
 -- ---- domain-specs behind a colon
 
 pub target_read : (text rest : List ℕ) (o : Option (List Piece)) → text ≡ 58 ∷ rest → Reads (SpellsDomainSpec false) rest o → Reads SpellsRequired text o
@@ -200,14 +193,6 @@ network_read Spells bits p text rest address after a len e s spells short is = r
 -- a text cut behind a front is the front and the rest
 pub split_there : (text : List ℕ) (n : ℕ) (front back : List ℕ) → ((f l : List ℕ) × SplitsLens text f l × (length f ≡ n)) → front ≡ take n text → back ≡ drop n text → SplitsLens text front back
 split_there text n front back (f, l, s, at) is rest =
-    let first : front ≡ f = is ∙ ap (λ k. take k text) (sym at) ∙ ap (λ t. take (length f) t) s.whole ∙ take-append f l in
-    let last : back ≡ l = rest ∙ ap (λ k. drop k text) (sym at) ∙ ap (λ t. drop (length f) t) s.whole ∙ drop-append f l in
+    let first : front ≡ f = is ∙ ap (λ t. take n t) s.whole ∙ take_at f l n at in
+    let last : back ≡ l = rest ∙ ap (λ t. drop n t) s.whole ∙ drop_at f l n at in
     subst (λ t. SplitsLens text t back) (sym first) (subst (λ t. SplitsLens text f t) (sym last) s)
-  where
-    take-append : (f l : List ℕ) → take (length f) (f ++ l) ≡ f
-    take-append [] l = refl
-    take-append (x ∷ f) l = ap (λ t. x ∷ t) (take-append f l)
-
-    drop-append : (f l : List ℕ) → drop (length f) (f ++ l) ≡ l
-    drop-append [] l = refl
-    drop-append (x ∷ f) l = drop-append f l

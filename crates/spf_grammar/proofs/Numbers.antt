@@ -1,5 +1,5 @@
 -- The numbers and lengths that texts spell.
-use Rattle.std.proofs.Common.{◌≡◌, ◌≢◌, ℕ, suc, ◌+◌, ◌<◌, ◌≤◌, ◌^◌, min, true, false, List, [], ◌∷◌, ◌++◌, length, take, drop, refl, sym, ◌∙◌, ap, subst, inl, inr, one-add, arith, Option, Some, None}
+use Rattle.std.proofs.Common.{◌≡◌, ◌≢◌, ℕ, ◌+◌, ◌<◌, ◌≤◌, ◌^◌, min, true, false, List, [], ◌∷◌, ◌++◌, take, drop, refl, sym, ◌∙◌, ap, subst, inl, inr, one-add, arith, Option, Some, None}
 use Rattle.std.proofs.lemmas.Bool.{eqb-true, both_ways, false_from_ne_true}
 use Rattle.std.proofs.lemmas.Fmt.{decimal_is_IsNumeral}
 use Rattle.std.specs.Prelude.{◌==◌, codes, decimal}
@@ -12,7 +12,7 @@ use Rattle.spf_macros.proofs.OneReading.{heads, tails, head_or, is_digit}
 use Rattle.spf_macros.proofs.Spans.{span_at, one_span}
 use Rattle.spf_grammar.specs.Grammar.{SpellsLen}
 use Rattle.spf_grammar.specs.Reading.{SpellsNumber, is_slash, HasNoFirst, SplitsDual, SpellsDual}
-use Rattle.spf_grammar.proofs.OneTail.{decimal_digits, decimal_head, len_fits}
+use Rattle.spf_grammar.proofs.OneTail.{decimal_digits, decimal_head, len_fits, no_first_byte}
 
 -- ---- numbers
 
@@ -85,18 +85,12 @@ no_digit_slash n rest more small e = both_ways (is_digit 47) refl (ap (λ t. is_
 
 -- where a text begins with two slashes, there is no first length
 no_first : (lens : List ℕ) (n : ℕ) (rest : List ℕ) → n ≤ 128 → HasNoFirst lens → lens ≡ 47 ∷ (decimal n ++ rest) → ⊥
-no_first [] n rest small h e = empty (ap length e)
-  where
-    empty : {k : ℕ} → 0 ≡ suc k → ⊥
-    empty e = omega (arith, e)
+no_first [] n rest small h e = no_first_byte e
 no_first (b ∷ bs) n rest small (inl h) e = both_ways (is_slash b) h (ap is_slash (heads e))
 no_first (b ∷ bs) n rest small (inr h) e = no_digit_slash n rest h.0 small (sym (tails e) ∙ h.1)
 
 empty_second : (digits after : List ℕ) (m : ℕ) → Pauses is_slash (digits ++ after) → SpellsLen (codes "//") 128 (47 ∷ (digits ++ after)) m → ⊥
-empty_second digits after m pauses (inl h) = empty (ap length (sym h.0))
-  where
-    empty : {k : ℕ} → 0 ≡ suc k → ⊥
-    empty e = omega (arith, e)
+empty_second digits after m pauses (inl h) = no_first_byte (sym h.0)
 empty_second digits after m pauses (inr h) = both_ways (is_slash 47) (subst (λ t. Pauses is_slash t) (tails h.1) pauses) refl
 
 ascii_pauses6 : (text : List ℕ) (m : ℕ) → SpellsLen (codes "//") 128 text m → Pauses is_ascii_digit text

@@ -94,10 +94,10 @@ pub record Sees (text mark name rest : List ℕ) : Type 0 where
   pub pauses : Pauses is_name_byte rest
   pub whole : text ≡ mark ++ (front ++ rest)
 
--- a letter stands first
-head_of_front : (front rest : List ℕ) → is_ascii_alphabetic (head_or 0 front) ≡ true → is_ascii_alphabetic (head_or 0 (front ++ rest)) ≡ true
-head_of_front [] rest h = absurd (both_ways false refl h)
-head_of_front (b ∷ bs) rest h = h
+-- a letter begins a text with no mark
+pub no_mark_there : (b : ℕ) (more front rest : List ℕ) → is_mark b ≡ true → is_ascii_alphabetic (head_or 0 front) ≡ true → b ∷ more ≡ front ++ rest → ⊥
+no_mark_there b more [] rest m letter e = both_ways false refl letter
+no_mark_there b more (f ∷ fs) rest m letter e = mark_no_letter b m (ap is_ascii_alphabetic (heads e) ∙ letter)
 
 one_view : (text mark name rest mark' name' rest' : List ℕ) → Sees text mark name rest → Sees text mark' name' rest'
     → (mark ≡ mark') × (name ≡ name') × (rest ≡ rest')
@@ -108,17 +108,14 @@ one_view text mark name rest mark' name' rest' s u = by_marks s.marks u.marks
         let parts = one_span is_name_byte s.front u.front rest rest' s.letters u.letters s.pauses u.pauses e in
         (same, sym s.says ∙ ap str_to_ascii_lowercase parts.0 ∙ u.says, parts.1)
 
-    clash : (b : ℕ) (more front rest : List ℕ) → is_mark b ≡ true → is_ascii_alphabetic (head_or 0 front) ≡ true → b ∷ more ≡ front ++ rest → ⊥
-    clash b more front rest m h e = mark_no_letter b m (ap (λ l. is_ascii_alphabetic (head_or 0 l)) e ∙ head_of_front front rest h)
-
     by_marks : (mark ≡ []) ⊎ ((b : ℕ) × (mark ≡ b ∷ []) × (is_mark b ≡ true)) → (mark' ≡ []) ⊎ ((b : ℕ) × (mark' ≡ b ∷ []) × (is_mark b ≡ true))
         → (mark ≡ mark') × (name ≡ name') × (rest ≡ rest')
     by_marks (inl e) (inl f) =
         with_fronts (e ∙ sym f) (ap (λ m. m ++ (s.front ++ rest)) (sym e) ∙ sym s.whole ∙ u.whole ∙ ap (λ m. m ++ (u.front ++ rest')) f)
     by_marks (inl e) (inr f) =
-        absurd (clash f.0 (u.front ++ rest') s.front rest f.2 s.begins (ap (λ m. m ++ (u.front ++ rest')) (sym f.1) ∙ sym u.whole ∙ s.whole ∙ ap (λ m. m ++ (s.front ++ rest)) e))
+        absurd (no_mark_there f.0 (u.front ++ rest') s.front rest f.2 s.begins (ap (λ m. m ++ (u.front ++ rest')) (sym f.1) ∙ sym u.whole ∙ s.whole ∙ ap (λ m. m ++ (s.front ++ rest)) e))
     by_marks (inr e) (inl f) =
-        absurd (clash e.0 (s.front ++ rest) u.front rest' e.2 u.begins (ap (λ m. m ++ (s.front ++ rest)) (sym e.1) ∙ sym s.whole ∙ u.whole ∙ ap (λ m. m ++ (u.front ++ rest')) f))
+        absurd (no_mark_there e.0 (s.front ++ rest) u.front rest' e.2 u.begins (ap (λ m. m ++ (s.front ++ rest)) (sym e.1) ∙ sym s.whole ∙ u.whole ∙ ap (λ m. m ++ (u.front ++ rest')) f))
     by_marks (inr e) (inr f) =
         let same = ap (λ m. m ++ (s.front ++ rest)) (sym e.1) ∙ sym s.whole ∙ u.whole ∙ ap (λ m. m ++ (u.front ++ rest')) f.1 in
         with_fronts (e.1 ∙ ap (λ b. b ∷ []) (heads same) ∙ sym f.1) (tails same)
@@ -215,6 +212,12 @@ mechanism_parts text (Ip4 p) h = h
 mechanism_parts text (Ip6 p) h = h
 mechanism_parts text (Exists spec) h = h
 
+-- a name has bytes of names alone
+pub name_bytes : (front : List ℕ) → is_name front ≡ true → list_all is_name_byte front ≡ true
+name_bytes [] n = absurd (both_ways false refl n)
+name_bytes (b ∷ bs) n = let split = and_parts (is_ascii_alphabetic b) _ n in
+    and_from (is_name_byte b) (list_all is_name_byte bs) (or_left _ _ (or_left _ _ split.0)) split.1
+
 pub view : (text : List ℕ) (t : Term) → SpellsTerm text t → (mark rest : List ℕ) × Sees text mark (term_name t) rest × Behind t mark rest
 view text (Directive v m) h =
     let parts = mechanism_parts h.1 m h.3 in
@@ -236,7 +239,7 @@ view text (Unknown name value) h = (
     front = h.front;
     marks = inl refl;
     says = h.lower;
-    letters = named h.front h.named;
+    letters = name_bytes h.front h.named;
     begins = first h.front h.named;
     pauses = refl;
     whole = h.whole;
@@ -244,11 +247,6 @@ view text (Unknown name value) h = (
   (refl, h.no_redirect, h.no_exp, (h.rest, h.spells, refl)),
 )
   where
-    named : (front : List ℕ) → is_name front ≡ true → list_all is_name_byte front ≡ true
-    named [] n = absurd (both_ways false refl n)
-    named (b ∷ bs) n = let split = and_parts (is_ascii_alphabetic b) _ n in
-        and_from (is_name_byte b) (list_all is_name_byte bs) (or_left _ _ (or_left _ _ split.0)) split.1
-
     first : (front : List ℕ) → is_name front ≡ true → is_ascii_alphabetic (head_or 0 front) ≡ true
     first [] n = absurd (both_ways false refl n)
     first (b ∷ bs) n = (and_parts (is_ascii_alphabetic b) _ n).0

@@ -1,5 +1,5 @@
 -- The parts of a mechanism are read in one way: its domain-spec, its lengths, its network.
-use Rattle.std.proofs.Common.{◌≡◌, ℕ, suc, ◌<◌, ◌≤◌, ◌^◌, Bool, true, false, not, ◌&&◌, ◌||◌, ◌⊎◌, List, [], ◌∷◌, ◌++◌, length, refl, sym, ◌∙◌, ap, subst, inl, inr, append_assoc, append-nil, arith, lit≤, Option, Some, None}
+use Rattle.std.proofs.Common.{◌≡◌, ℕ, suc-ne-zero, ◌<◌, ◌≤◌, ◌^◌, Bool, true, false, not, ◌&&◌, ◌||◌, ◌⊎◌, List, [], ◌∷◌, ◌++◌, length, refl, sym, ◌∙◌, ap, subst, inl, inr, append_assoc, append-nil, arith, lit≤, Option, Some, None}
 use Rattle.std.proofs.lemmas.Bool.{and_parts, and_from, and_left, and_right, or_from, or_left, or_right, not-true, eqb-true, both_ways}
 use Rattle.std.proofs.lemmas.Fmt.{decimal_is_IsNumeral}
 use Rattle.std.proofs.lemmas.List.Folds.{list_all-append}
@@ -12,9 +12,9 @@ use Rattle.addr_bits.specs.Laws.{is_address_byte}
 use Rattle.spf_macros.specs.declared.piece.Macro.{Macro}
 use Rattle.spf_macros.specs.declared.piece.Piece.{Piece}
 use Rattle.spf_macros.specs.declared.piece.Piece.TheVariants.{Literal, Percent, Space, Percent20, Expand}
-use Rattle.spf_macros.specs.Grammar.{is_let_dig_hyp, is_toplabel, is_expand, letter_byte, SpellsMacro, SpellsPiece, SpellsDomainEnd, SpellsDomainSpec}
+use Rattle.spf_macros.specs.Grammar.{is_let_dig_hyp, is_expand, letter_byte, SpellsMacro, SpellsPiece, SpellsDomainEnd, SpellsDomainSpec}
 use Rattle.spf_macros.specs.Reading.{Pauses}
-use Rattle.spf_macros.proofs.DomainSpecs.{spec_spelled}
+use Rattle.spf_macros.proofs.DomainSpecs.{spec_spelled, top_bytes}
 use Rattle.spf_macros.proofs.Digits.{same_digit}
 use Rattle.spf_macros.proofs.Spans.{one_span}
 use Rattle.spf_macros.proofs.OneReading.{heads, tails, head_or, is_digit, all_digits, one_macro_text}
@@ -43,6 +43,10 @@ all_both p xs ys hx hy = list_all-append p xs ys ∙ and_from (list_all p xs) (l
 pub all_second : (p : ℕ → Bool) (xs ys : List ℕ) → list_all p ys ≡ false → list_all p (xs ++ ys) ≡ false
 all_second p xs ys h = list_all-append p xs ys ∙ and_right (list_all p xs) (list_all p ys) h
 
+-- an empty text has no first byte
+pub no_first_byte : {b : ℕ} {bs : List ℕ} → [] ≡ b ∷ bs → ⊥
+no_first_byte {b} {bs} e = suc-ne-zero (length bs) (sym (ap length e))
+
 -- ---- decimal numbers
 
 pub decimal_digits : (n : ℕ) → n < 2 ^ 64 → list_all is_digit (decimal n) ≡ true
@@ -64,9 +68,6 @@ pub len_fits : (n : ℕ) → n ≤ 128 → n < 2 ^ 64
 len_fits n h = omega (arith, h)
 
 -- ---- domain-specs
-
-toplabel_bytes : (label : List ℕ) → is_toplabel label ≡ true → list_all is_let_dig_hyp label ≡ true
-toplabel_bytes label h = (and_parts _ _ (and_parts _ _ (and_parts _ _ h).0).0).0
 
 -- one final dot passes what a dot passes
 dot_passes : (p : ℕ → Bool) → p 46 ≡ true → (dot : List ℕ) → (dot ≡ []) ⊎ (dot ≡ codes ".") → list_all p dot ≡ true
@@ -112,7 +113,7 @@ expand_end text (Expand m) h e = macro_end text m h
 domain_end : (text : List ℕ) (pieces : List Piece) → SpellsDomainEnd text pieces → (ends_in_len text ≡ false) × (list_all is_len_byte text ≡ false)
 domain_end text pieces (inl h) = (
   ap ends_in_len h.4 ∙ no_slash (h.0 ++ h.1) (all_both (λ b. not (b == 47)) h.0 h.1
-      (weaker is_let_dig_hyp (λ b. not (b == 47)) (keeps_out is_let_dig_hyp 47 refl) h.0 (toplabel_bytes h.0 h.2)) (dot_passes (λ b. not (b == 47)) refl h.1 h.3)),
+      (weaker is_let_dig_hyp (λ b. not (b == 47)) (keeps_out is_let_dig_hyp 47 refl) h.0 (top_bytes h.0 h.2)) (dot_passes (λ b. not (b == 47)) refl h.1 h.3)),
   ap (list_all is_len_byte) h.4,
 )
 domain_end text pieces (inr h) = expand_end text h.0 h.1 h.2
@@ -164,23 +165,14 @@ fronts a b x y ea eb bx by_ sx sy h = elim (cut_twice a b x y h) [
 
 -- a second slash is no number
 no_number : (text rest : List ℕ) (len n : ℕ) → n ≤ 128 → SpellsLen (codes "//") 128 text len → text ≡ 47 ∷ (decimal n ++ rest) → ⊥
-no_number text rest len n small (inl h) e = nothing (ap length (sym h.0 ∙ e))
-  where
-    nothing : {k : ℕ} → 0 ≡ suc k → ⊥
-    nothing e = omega (arith, e)
+no_number text rest len n small (inl h) e = no_first_byte (sym h.0 ∙ e)
 no_number text rest len n small (inr h) e =
     both_ways (is_digit 47) refl (ap (λ t. is_digit (head_or 0 t)) (tails (sym h.1 ∙ e)) ∙ decimal_head n rest (len_fits n small))
 
 one_len6 : (text : List ℕ) (m n : ℕ) → SpellsLen (codes "//") 128 text m → SpellsLen (codes "//") 128 text n → m ≡ n
 one_len6 text m n (inl h) (inl g) = h.1 ∙ sym g.1
-one_len6 text m n (inl h) (inr g) = absurd (empty (ap length (sym h.0 ∙ g.1)))
-  where
-    empty : {k : ℕ} → 0 ≡ suc k → ⊥
-    empty e = omega (arith, e)
-one_len6 text m n (inr h) (inl g) = absurd (empty (ap length (sym g.0 ∙ h.1)))
-  where
-    empty : {k : ℕ} → 0 ≡ suc k → ⊥
-    empty e = omega (arith, e)
+one_len6 text m n (inl h) (inr g) = absurd (no_first_byte (sym h.0 ∙ g.1))
+one_len6 text m n (inr h) (inl g) = absurd (no_first_byte (sym g.0 ∙ h.1))
 one_len6 text m n (inr h) (inr g) = decimal_once m n (len_fits m h.0) (len_fits n g.0) (tails (tails (sym h.1 ∙ g.1)))
 
 pub pauses6 : (text : List ℕ) (len : ℕ) → SpellsLen (codes "//") 128 text len → Pauses is_digit text
@@ -206,14 +198,8 @@ one_lens a b a' b' l m l' m' (inr h) s (inr g) u e =
 
 pub one_target : (text : List ℕ) (a b : Option (List Piece)) → SpellsTarget text a → SpellsTarget text b → a ≡ b
 one_target text None None h g = refl
-one_target text None (Some b) h g = absurd (empty (ap length (sym h ∙ g.2)))
-  where
-    empty : {k : ℕ} → 0 ≡ suc k → ⊥
-    empty e = omega (arith, e)
-one_target text (Some a) None h g = absurd (empty (ap length (sym g ∙ h.2)))
-  where
-    empty : {k : ℕ} → 0 ≡ suc k → ⊥
-    empty e = omega (arith, e)
+one_target text None (Some b) h g = absurd (no_first_byte (sym h ∙ g.2))
+one_target text (Some a) None h g = absurd (no_first_byte (sym g ∙ h.2))
 one_target text (Some a) (Some b) h g =
     ap Some (one_spec false h.0 a b h.1 (subst (λ t. SpellsDomainSpec false t b) (sym (tails (sym h.2 ∙ g.2))) g.1))
 
@@ -232,14 +218,8 @@ one_hosts text a b l m l' m' h g =
 
 one_len : (most : ℕ) (text : List ℕ) (m n : ℕ) → most ≤ 128 → SpellsLen (codes "/") most text m → SpellsLen (codes "/") most text n → m ≡ n
 one_len most text m n small (inl h) (inl g) = h.1 ∙ sym g.1
-one_len most text m n small (inl h) (inr g) = absurd (empty (ap length (sym h.0 ∙ g.1)))
-  where
-    empty : {k : ℕ} → 0 ≡ suc k → ⊥
-    empty e = omega (arith, e)
-one_len most text m n small (inr h) (inl g) = absurd (empty (ap length (sym g.0 ∙ h.1)))
-  where
-    empty : {k : ℕ} → 0 ≡ suc k → ⊥
-    empty e = omega (arith, e)
+one_len most text m n small (inl h) (inr g) = absurd (no_first_byte (sym h.0 ∙ g.1))
+one_len most text m n small (inr h) (inl g) = absurd (no_first_byte (sym g.0 ∙ h.1))
 one_len most text m n small (inr h) (inr g) =
     decimal_once m n (len_fits m (omega (arith, small, h.0))) (len_fits n (omega (arith, small, g.0))) (tails (sym h.1 ∙ g.1))
 

@@ -1,14 +1,12 @@
 -- A term is cut into its qualifier, its name and the rest in one way.
 use Rattle.std.proofs.Common.{◌≡◌, ◌≢◌, ℕ, Bool, true, false, ◌⊎◌, List, [], ◌∷◌, ◌++◌, length, refl, sym, ◌∙◌, ap, subst, inl, inr, append-nil, if◌then◌else◌, Option, Some, None}
-use Rattle.std.proofs.lemmas.Bool.{both_ways, and_parts, and_from, or_left, eqb-false}
+use Rattle.std.proofs.lemmas.Bool.{both_ways, eqb-false}
 use Rattle.std.specs.Prelude.{codes, ◌==◌, bytes_eq}
-use Rattle.std.specs.Char.{is_ascii_alphabetic}
-use Rattle.std.specs.List.{list_all}
 use Rattle.std.specs.Str.{str_to_ascii_lowercase}
 use Rattle.spf_macros.specs.declared.piece.Piece.{Piece}
 use Rattle.spf_macros.specs.Grammar.{SpellsMacroText, SpellsDomainSpec}
 use Rattle.spf_macros.specs.Reading.{Reads, Pauses, IsSpan}
-use Rattle.spf_macros.proofs.OneReading.{heads, tails, head_or}
+use Rattle.spf_macros.proofs.OneReading.{heads, tails}
 use Rattle.spf_macros.proofs.Spans.{one_span}
 use Rattle.spf_grammar.specs.declared.verdict.Verdict.{Verdict}
 use Rattle.spf_grammar.specs.declared.keywords.Keyword.{Keyword}
@@ -19,18 +17,13 @@ use Rattle.spf_grammar.specs.declared.policy.Term.{Term}
 use Rattle.spf_grammar.specs.declared.policy.Term.TheVariants.{Directive, Redirect, Exp, Unknown}
 use Rattle.spf_grammar.specs.Grammar.{SaysWord, SpellsQualifier, SpellsMechanism, SpellsTerm, is_name, is_name_byte}
 use Rattle.spf_grammar.specs.Reading.{BehindMechanism, SpellsBehind, is_mark, IsMark, SplitsMark, SpellsModifier, SpellsDirective, word, keyword_of}
-use Rattle.spf_grammar.proofs.OnePolicy.{Sees, view, Behind, term_name, mechanism_name, mechanism_begin, mark_no_letter}
+use Rattle.spf_grammar.proofs.OnePolicy.{Sees, view, Behind, term_name, mechanism_name, mechanism_begin, no_mark_there, name_bytes}
 
 -- a text as its qualifier, bytes of a name and the rest
 pub record Cut (text mark name rest : List ℕ) : Type 0 where
   pub behind_mark : List ℕ
   pub marked : SplitsMark text mark behind_mark
   pub named : IsSpan is_name_byte behind_mark name rest
-
--- a letter begins a text with no mark
-no_mark_there : (b : ℕ) (more front rest : List ℕ) → is_mark b ≡ true → is_ascii_alphabetic (head_or 0 front) ≡ true → b ∷ more ≡ front ++ rest → ⊥
-no_mark_there b more [] rest m letter e = both_ways false refl letter
-no_mark_there b more (f ∷ fs) rest m letter e = mark_no_letter b m (ap is_ascii_alphabetic (heads e) ∙ letter)
 
 pauses_there : (text : List ℕ) (b : ℕ) (more : List ℕ) → Pauses is_mark text → is_mark b ≡ true → text ≡ b ∷ more → ⊥
 pauses_there text b more pauses m e = both_ways (is_mark b) (subst (λ t. Pauses is_mark t) e pauses) m
@@ -100,7 +93,7 @@ modifier_read text name rest value None c e none = λ t h. refused t (told text 
     refused (Redirect spec) h s = none (Redirect spec) (h.0, subst (λ v. SpellsDomainSpec false v spec) (tails (sym h.1.1.2 ∙ e)) h.1.1.1)
     refused (Exp spec) h s = none (Exp spec) (h.0, subst (λ v. SpellsDomainSpec true v spec) (tails (sym h.1.1.2 ∙ e)) h.1.1.1)
     refused (Unknown lower pieces) h s =
-        let same = one_span is_name_byte s.front name (61 ∷ s.rest) rest (letters s.front s.named) c.named.passes refl c.named.pauses (sym s.whole ∙ whole text [] name rest c) in
+        let same = one_span is_name_byte s.front name (61 ∷ s.rest) rest (name_bytes s.front s.named) c.named.passes refl c.named.pauses (sym s.whole ∙ whole text [] name rest c) in
         none (Unknown lower pieces) (
           subst (λ n. is_name n ≡ true) same.0 s.named,
           h.0,
@@ -108,11 +101,6 @@ modifier_read text name rest value None c e none = λ t h. refused t (told text 
           s.no_exp,
           subst (λ v. SpellsMacroText v pieces) (tails (same.1 ∙ e)) s.spells,
         )
-      where
-        letters : (front : List ℕ) → is_name front ≡ true → list_all is_name_byte front ≡ true
-        letters [] n = absurd (both_ways false refl n)
-        letters (b ∷ bs) n = let parts = and_parts (is_ascii_alphabetic b) (list_all is_name_byte bs) n in
-            and_from (is_name_byte b) (list_all is_name_byte bs) (or_left _ _ (or_left _ _ parts.0)) parts.1
 
 -- the same of a text with nothing for a qualifier
 pub unmarked_read : (text mark name rest value : List ℕ) (o : Option Term) → mark ≡ [] → Cut text mark name rest → rest ≡ 61 ∷ value → Reads (SpellsModifier name) value o → Reads SpellsTerm text o

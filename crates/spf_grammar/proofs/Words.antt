@@ -1,5 +1,5 @@
 -- A record is cut into its version section and its terms in one way.
-use Rattle.std.proofs.Common.{◌≡◌, ◌≢◌, ℕ, suc, ◌<◌, ◌≤◌, Bool, true, false, not, List, [], ◌∷◌, ◌++◌, length, take, drop, refl, sym, ◌∙◌, ap, subst, append_assoc, append-nil, length-append, take-append-drop, arith}
+use Rattle.std.proofs.Common.{◌≡◌, ◌≢◌, ℕ, suc, ◌<◌, ◌≤◌, Bool, true, false, not, List, [], ◌∷◌, ◌++◌, length, take, drop, refl, sym, ◌∙◌, ap, subst, append_assoc, append-nil, length-append, take-append-drop, take_at, drop_at, arith}
 use Rattle.std.proofs.lemmas.Bool.{and_parts, and_from, both_ways, eqb-true, not_from_true}
 use Rattle.std.proofs.lemmas.Slice.Eq.{bytes_eq-Decides}
 use Rattle.std.specs.Prelude.{◌==◌, codes, count_by, bytes_eq}
@@ -120,20 +120,12 @@ version_within text h =
     let six : length b.version ≡ 6 = sym (lower_len b.version) ∙ ap length b.says in
     omega (arith, six, ap length b.whole, length-append b.version (drop 6 text))
 
-take_front : (v r : List ℕ) → take (length v) (v ++ r) ≡ v
-take_front [] r = refl
-take_front (x ∷ v) r = ap (λ t. x ∷ t) (take_front v r)
-
-drop_front : (v r : List ℕ) → drop (length v) (v ++ r) ≡ r
-drop_front [] r = refl
-drop_front (x ∷ v) r = drop_front v r
-
 pub version_told : (text : List ℕ) (policy : Policy) → SpellsPolicy text policy → is_spf_text text ≡ true
 unfolding is_spf_text
 version_told text policy h =
     let six : length h.version ≡ 6 = sym (lower_len h.version) ∙ ap length h.begins in
-    let front : take 6 text ≡ h.version = ap (λ t. take 6 t) h.whole ∙ ap (λ n. take n (h.version ++ h.rest)) (sym six) ∙ take_front h.version h.rest in
-    let back : drop 6 text ≡ h.rest = ap (λ t. drop 6 t) h.whole ∙ ap (λ n. drop n (h.version ++ h.rest)) (sym six) ∙ drop_front h.version h.rest in
+    let front : take 6 text ≡ h.version = ap (λ t. take 6 t) h.whole ∙ take_at h.version h.rest 6 six in
+    let back : drop 6 text ≡ h.rest = ap (λ t. drop 6 t) h.whole ∙ drop_at h.version h.rest 6 six in
     and_from (bytes_eq (str_to_ascii_lowercase (take 6 text)) (codes "v=spf1")) (ends_version (drop 6 text))
     ((bytes_eq-Decides (str_to_ascii_lowercase (take 6 text)) (codes "v=spf1")).1 (ap str_to_ascii_lowercase front ∙ h.begins))
     (ap ends_version back ∙ pauses_version h.rest (terms_pause h.rest policy.terms h.terms))

@@ -1,4 +1,4 @@
--- First-match lists, seen from one family of addresses.
+-- First-match lists (RFC 7208, sections 4.6.2 and 4.7), seen from one family of addresses: the project's own form.
 use Rattle.std.specs.Prelude.{ℕ, ◌+◌, ◌-◌, ◌/◌, ◌^◌, ◌==◌, nat_lt, nat_le, Bool, true, false, ◌&&◌, if◌then◌else◌, List, [], ◌∷◌}
 use Rattle.spf_grammar.specs.declared.verdict.Verdict.{Verdict}
 use Rattle.spf_grammar.specs.declared.verdict.Verdict.TheVariants.{Neutral}

@@ -8,6 +8,7 @@ use Rattle.addr_bits.specs.Ip4.{SpellsIp4}
 use Rattle.addr_bits.specs.Ip6.{SpellsIp6}
 use Rattle.spf_macros.specs.declared.piece.Piece.{Piece}
 use Rattle.spf_macros.specs.Grammar.{SpellsMacroText, SpellsDomainSpec}
+use Rattle.spf_macros.specs.Reading.{Reads}
 use Rattle.spf_grammar.specs.declared.verdict.Verdict.{Verdict}
 use Rattle.spf_grammar.specs.declared.verdict.Verdict.TheVariants.{Fail, SoftFail, Pass, Neutral}
 use Rattle.spf_grammar.specs.declared.policy.Mechanism.{Mechanism}
@@ -104,6 +105,7 @@ SpellsTerm text (Exp spec) =
     SpellsWith (codes "exp") (λ rest. (value : List ℕ) × SpellsDomainSpec true value spec × (rest ≡ 61 ∷ value)) text
 SpellsTerm text (Unknown name value) = SpellsUnknown text name value
 
+-- RFC 7208, section 12: SP
 abbrev pub is_space : ℕ → Bool
 is_space b = b == 32
 
@@ -114,12 +116,14 @@ SpellsTerms text (term ∷ terms) =
     (gap word rest : List ℕ) × IsTrue (list_all is_space gap) × SpellsTerm word term × SpellsTerms rest terms
     × (text ≡ 32 ∷ (gap ++ (word ++ rest)))
 
+-- RFC 7208, section 6.1: a `redirect` modifier
 abbrev pub is_redirect : Term → Bool
 is_redirect (Redirect spec) = true
 is_redirect (Directive verdict mechanism) = false
 is_redirect (Exp spec) = false
 is_redirect (Unknown name value) = false
 
+-- RFC 7208, section 6.2: an `exp` modifier
 abbrev pub is_exp : Term → Bool
 is_exp (Exp spec) = true
 is_exp (Directive verdict mechanism) = false
@@ -138,5 +142,4 @@ pub record SpellsPolicy (text : List ℕ) (policy : Policy) : Type 0 where
 
 -- RFC 7208, section 12: what the grammar makes of a text, its policy, or none
 abbrev pub ReadAs : List ℕ → Option Policy → Type 0
-ReadAs text (Some policy) = SpellsPolicy text policy
-ReadAs text None = (policy : Policy) → SpellsPolicy text policy → ⊥
+ReadAs text read = Reads SpellsPolicy text read

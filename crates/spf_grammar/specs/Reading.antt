@@ -1,4 +1,4 @@
--- What readers of SPF records answer.
+-- What readers of SPF records answer, in the project's own form, over the productions of RFC 7208, section 12.
 use Rattle.std.specs.Prelude.{◌≡◌, ◌≢◌, ℕ, ◌≤◌, Bool, true, false, not, ◌&&◌, ◌||◌, ◌==◌, IsTrue, ◌⊎◌, List, [], ◌∷◌, ◌++◌, decimal, codes, Option, Some, None}
 use Rattle.std.specs.List.{list_all, list_any}
 use Rattle.std.specs.Char.{is_ascii_digit}
@@ -45,6 +45,7 @@ pub record SplitsLens (text front lens : List ℕ) : Type 0 where
   pub bytes : IsTrue (list_all is_len_byte lens)
   pub slashes : IsSlashed lens
 
+-- the slash of a length
 abbrev pub is_slash : ℕ → Bool
 is_slash b = b == 47
 
@@ -75,13 +76,15 @@ SpellsRequired text spec = SpellsTarget text (Some spec)
 abbrev pub SpellsAsHosts : List ℕ → Hosts → Type 0
 SpellsAsHosts text hosts = SpellsHosts hosts.target hosts.len4 hosts.len6 text
 
--- RFC 7208, section 12: a network of IPv4, or of IPv6
+-- RFC 7208, section 12: ":" ip4-network [ ip4-cidr-length ]
 abbrev pub SpellsNetwork4 : List ℕ → Cidr → Type 0
 SpellsNetwork4 text p = SpellsNetwork SpellsIp4 32 p text
 
+-- RFC 7208, section 12: ":" ip6-network [ ip6-cidr-length ]
 abbrev pub SpellsNetwork6 : List ℕ → Cidr → Type 0
 SpellsNetwork6 text p = SpellsNetwork SpellsIp6 128 p text
 
+-- a byte that ends no network
 abbrev pub is_no_slash : ℕ → Bool
 is_no_slash b = not (b == 47)
 
@@ -96,6 +99,7 @@ word keyword.Ip4 = codes "ip4"
 word keyword.Ip6 = codes "ip6"
 word keyword.Exists = codes "exists"
 
+-- RFC 7208, section 5: which mechanism it is
 abbrev pub keyword_of : Mechanism → Keyword
 keyword_of All = keyword.All
 keyword_of (Include spec) = keyword.Include
@@ -157,6 +161,7 @@ SpellsDirective mark name rest (Unknown lower pieces) = ⊥
 
 -- ---- words of a record
 
+-- a byte that ends no word
 abbrev pub no_space : ℕ → Bool
 no_space b = not (b == 32)
 
@@ -182,6 +187,7 @@ pub record SplitsWord (text word rest : List ℕ) : Type 0 where
 
 -- ---- macro texts that are written
 
+-- the domain-spec of a mechanism is a macro text, where it is written
 abbrev pub TargetIsText : Option (List Piece) → Type 0
 TargetIsText None = Unit {0}
 TargetIsText (Some spec) = IsMacroText spec
@@ -204,6 +210,7 @@ TermHasText (Redirect spec) = IsMacroText spec
 TermHasText (Exp spec) = IsMacroText spec
 TermHasText (Unknown name value) = IsMacroText value
 
+-- the macro text of each term is one
 abbrev pub TermsHaveTexts : List Term → Type 0
 TermsHaveTexts [] = Unit {0}
 TermsHaveTexts (t ∷ ts) = TermHasText t × TermsHaveTexts ts

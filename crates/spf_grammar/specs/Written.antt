@@ -28,6 +28,7 @@ written_ip4 p = codes "ip4:" ++ ip4_text p.start ++ written_len (codes "/") 32 p
 abbrev pub written_ip6 : Cidr → List ℕ
 written_ip6 p = codes "ip6:" ++ ip6_text p.start ++ written_len (codes "/") 128 p.len
 
+-- RFC 7208, sections 5.1 and 5.6: a network as the mechanism that has its addresses
 abbrev pub written_net : Net → List ℕ
 written_net (V4 p) = written_ip4 p
 written_net (V6 p) = written_ip6 p

@@ -21,11 +21,16 @@ impl Net {
     pub fn covers(self, a: Address) -> bool
         ensures { result ≡ covers_address self a }
     {
-        match (self, a) {
-            (Net::All, _) => true,
-            (Net::V4(prefix), Address::V4(number)) => prefix.covers(number),
-            (Net::V6(prefix), Address::V6(number)) => prefix.covers(number),
-            _ => false,
+        match self {
+            Net::All => true,
+            Net::V4(prefix) => match a {
+                Address::V4(number) => prefix.covers(number),
+                Address::V6(_) => false,
+            },
+            Net::V6(prefix) => match a {
+                Address::V4(_) => false,
+                Address::V6(number) => prefix.covers(number),
+            },
         }
     }
 }

@@ -47,9 +47,7 @@ pub(crate) fn read_len(text: &[u8], slash: &[u8], most: u8) -> Option<u8>
     if text.is_empty() {
         return Some(most);
     }
-    let Some(digits) = text.strip_prefix(slash) else {
-        return None;
-    };
+    let digits = text.strip_prefix(slash)?;
     read_number(digits, most)
 }
 
@@ -71,11 +69,7 @@ pub(crate) fn read_dual(lens: &[u8]) -> Option<(u8, u8)>
     ensures { Reads SpellsDual lens.now result }
 {
     let (after4, after6) = split_dual(lens);
-    let Some(len4) = read_len(after4, b"/", 32) else {
-        return None;
-    };
-    let Some(len6) = read_len(after6, b"//", 128) else {
-        return None;
-    };
+    let len4 = read_len(after4, b"/", 32)?;
+    let len6 = read_len(after6, b"//", 128)?;
     Some((len4, len6))
 }

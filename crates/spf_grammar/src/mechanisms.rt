@@ -75,9 +75,7 @@ fn read_exists(alloc: Global, text: &[u8]) -> Result<Option<Mechanism>, AllocErr
 fn read_ip4_network(text: &[u8]) -> Option<Mechanism>
     ensures { Reads (SpellsBehind keyword.Ip4) text.now result }
 {
-    let Some(network) = read_network4(text) else {
-        return None;
-    };
+    let network = read_network4(text)?;
     Some(Mechanism::Ip4(network))
 }
 
@@ -85,9 +83,7 @@ fn read_ip4_network(text: &[u8]) -> Option<Mechanism>
 fn read_ip6_network(text: &[u8]) -> Option<Mechanism>
     ensures { Reads (SpellsBehind keyword.Ip6) text.now result }
 {
-    let Some(network) = read_network6(text) else {
-        return None;
-    };
+    let network = read_network6(text)?;
     Some(Mechanism::Ip6(network))
 }
 

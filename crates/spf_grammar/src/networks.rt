@@ -1,5 +1,5 @@
 //! The networks of `ip4` and `ip6` terms.
-ghost use Rattle.std.specs.Prelude.{◌≡◌, ◌≢◌, ◌∷◌, ℕ, List, MatchOption};
+ghost use Rattle.std.specs.Prelude.{◌≡◌};
 ghost use Rattle.std.specs.List.{prefix_len};
 ghost use Rattle.spf_macros.specs.Reading.{Reads, IsSpan};
 ghost use Rattle.spf_grammar.specs.Reading.{SpellsNetwork4, SpellsNetwork6, is_no_slash};
@@ -25,16 +25,12 @@ fn split_slash(text: &[u8]) -> (&[u8], &[u8])
 pub(crate) fn read_network4(text: &[u8]) -> Option<Prefix<u32>>
     ensures { Reads SpellsNetwork4 text.now result }
 {
-    let Some(network) = behind(text, b':') else {
-        return None;
-    };
+    let network = behind(text, b':')?;
     let (address, after) = split_slash(network);
     let Ok(address) = read_ip4(address) else {
         return None;
     };
-    let Some(len) = read_len(after, b"/", 32) else {
-        return None;
-    };
+    let len = read_len(after, b"/", 32)?;
     Some(Prefix::new(address, u32::from(len)))
 }
 
@@ -42,15 +38,11 @@ pub(crate) fn read_network4(text: &[u8]) -> Option<Prefix<u32>>
 pub(crate) fn read_network6(text: &[u8]) -> Option<Prefix<u128>>
     ensures { Reads SpellsNetwork6 text.now result }
 {
-    let Some(network) = behind(text, b':') else {
-        return None;
-    };
+    let network = behind(text, b':')?;
     let (address, after) = split_slash(network);
     let Ok(address) = read_ip6(address) else {
         return None;
     };
-    let Some(len) = read_len(after, b"/", 128) else {
-        return None;
-    };
+    let len = read_len(after, b"/", 128)?;
     Some(Prefix::new(address, u32::from(len)))
 }

@@ -44,5 +44,6 @@ pub type Terms = Items<Term>;
 /// An SPF record (RFC 7208, section 4.5).
 #[derive(Drop)]
 pub struct Policy {
+    /// The terms, in order.
     pub terms: Terms,
 }

@@ -126,7 +126,7 @@ fn behind_version(text: &[u8]) -> Option<&[u8]>
 
 /// The policy that a text spells (RFC 7208, section 12), with networks cut to their lengths, lengths of 32 and 128
 /// bits where none are written, and names of unknown modifiers in lower case; `None` exactly where the text spells
-/// none. `redirect` and `exp` stand at most once each (section 6).
+/// none. `redirect` and `exp` stand at most once each (section 6). `AllocError` where there is no memory.
 pub fn parse(alloc: Global, text: &[u8]) -> Result<Option<Policy>, AllocError>
     ensures { IfOk result (ReadAs text.now) }
 {

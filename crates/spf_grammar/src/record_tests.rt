@@ -1,6 +1,6 @@
 //! Records, each with its answer by the productions.
 
-use crate::{is_spf, one_policy, parse, write_policy, written_policy};
+use crate::{first_of_each_family, is_spf, one_policy, parse, write_policy, written_policy};
 use addr_bits::Bytes;
 use std::alloc::{AllocError, Global};
 use std::test::Fail;
@@ -227,6 +227,7 @@ fn a_long_record(rt: HostRuntime) -> Result<(), Fail> {
 
 #[test]
 fn laws() {
+    first_of_each_family();
     one_policy();
     written_policy();
 }

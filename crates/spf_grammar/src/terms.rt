@@ -77,9 +77,7 @@ fn in_lower_case(alloc: Global, text: &[u8]) -> Result<Bytes, AllocError>
     ensures { IfOk result (λ lower. lower ≡ str_to_ascii_lowercase text.now) }
 {
     let mut lower = Bytes::new(alloc);
-    for byte in text {
-        lower.push(byte.to_ascii_lowercase())?;
-    }
+    lower.extend_from_slice(&text.to_ascii_lowercase(alloc)?)?;
     Ok(lower)
 }
 

@@ -53,6 +53,25 @@ fn written_terms(rt: HostRuntime) {
 }
 
 #[test]
+fn covered_addresses(rt: HostRuntime) {
+    let ten = Net::V4(Prefix::new(0x0a00_0000, 8));
+    let low = Net::V6(Prefix::new(0, 1));
+    let answers = [
+        (ten, Address::V4(0x0aff_ffff), true),
+        (ten, Address::V4(0x0b00_0000), false),
+        (ten, Address::V6(0x0a00_0000), false),
+        (low, Address::V6(1), true),
+        (low, Address::V6(u128::MAX), false),
+        (low, Address::V4(1), false),
+        (Net::All, Address::V4(0), true),
+        (Net::All, Address::V6(u128::MAX), true),
+    ];
+    for (net, address, answer) in answers {
+        assert_eq!(rt; net.covers(address), answer);
+    }
+}
+
+#[test]
 fn first_of_a_list(rt: HostRuntime) {
     let list = [
         four(Verdict::Fail, 0x0a01_0000, 16),

@@ -1,16 +1,16 @@
 //! Writing records.
-ghost use Rattle.std.specs.Prelude.{◌≡◌, ◌++◌, ◌∷◌, codes, flat_map, IfOk, OnOk};
+ghost use Rattle.std.specs.Prelude.{◌≡◌, ◌++◌, ◌∷◌, flat_map, IfOk, OnOk};
 ghost use Rattle.spf_macros.specs.Grammar.{written};
 ghost use Rattle.spf_macros.specs.Laws.{IsMacroText};
 ghost use Rattle.spf_grammar.specs.Grammar.{SpellsPolicy};
 ghost use Rattle.spf_grammar.specs.Laws.{IsPolicy};
 ghost use Rattle.spf_grammar.specs.Policies as policies;
 ghost use Rattle.spf_grammar.specs.Reading.{TargetIsText, MechanismHasText, TermHasText, TermsHaveTexts};
-ghost use Rattle.spf_grammar.specs.Written.{written_ip4, written_ip6, written_len};
+ghost use Rattle.spf_grammar.specs.Written.{written_len, written_net};
 
-use crate::written::qualifier;
-use crate::{Mechanism, Policy, Term};
-use addr_bits::{Bytes, Prefix, write_ip4, write_ip6};
+use crate::written::{qualifier, write_net};
+use crate::{Mechanism, Net, Policy, Term};
+use addr_bits::Bytes;
 use itoa::Buffer;
 use spf_macros::{MacroText, write_macro_text};
 use std::alloc::{AllocError, Global};
@@ -72,20 +72,10 @@ fn append_hosts(
     append_len(text, b"//", 128, len6)
 }
 
-fn append_ip4(text: &mut Bytes, network: Prefix<u32>) -> Result<(), AllocError>
-    ensures { OnOk result (text.new ≡ text.old ++ written_ip4 network) }
+fn append_net(text: &mut Bytes, net: Net) -> Result<(), AllocError>
+    ensures { OnOk result (text.new ≡ text.old ++ written_net net) }
 {
-    text.extend_from_slice(b"ip4:")?;
-    text.extend_from_slice(write_ip4(network.start()).as_str().as_bytes())?;
-    append_len(text, b"/", 32, network.len())
-}
-
-fn append_ip6(text: &mut Bytes, network: Prefix<u128>) -> Result<(), AllocError>
-    ensures { OnOk result (text.new ≡ text.old ++ written_ip6 network) }
-{
-    text.extend_from_slice(b"ip6:")?;
-    text.extend_from_slice(write_ip6(network.start()).as_str().as_bytes())?;
-    append_len(text, b"/", 128, network.len())
+    text.extend_from_slice(write_net(net).as_str().as_bytes())
 }
 
 fn append_mechanism(
@@ -114,8 +104,8 @@ fn append_mechanism(
             text.extend_from_slice(b"ptr")?;
             append_optional_target(alloc, text, target)
         }
-        Mechanism::Ip4(network) => append_ip4(text, *network),
-        Mechanism::Ip6(network) => append_ip6(text, *network),
+        Mechanism::Ip4(network) => append_net(text, Net::V4(*network)),
+        Mechanism::Ip6(network) => append_net(text, Net::V6(*network)),
         Mechanism::Exists(target) => {
             text.extend_from_slice(b"exists")?;
             append_target(alloc, text, target)
@@ -161,6 +151,7 @@ fn append_terms(alloc: Global, text: &mut Bytes, terms: &[Term]) -> Result<(), A
 
 /// The written form of a policy that some text spells: names in lower case, one space before each term, no `+`, and
 /// no length of 32 or 128 bits. It spells the policy (RFC 7208, section 12), and a text spells no other one.
+/// `AllocError` where there is no memory.
 pub fn write_policy(alloc: Global, policy: &Policy) -> Result<Bytes, AllocError>
     requires { IsPolicy policy.now }
     ensures text { IfOk result (λ text. text ≡ policies.written_policy policy.now) }

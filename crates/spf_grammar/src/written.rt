@@ -52,6 +52,16 @@ fn push_net(text: &mut ArrayString<48>, net: Net)
     }
 }
 
+/// The written form of a network: its mechanism, its prefix, and the length of the prefix in bits where that is not
+/// the longest (RFC 7208, section 5.6).
+pub(crate) fn write_net(net: Net) -> ArrayString<48>
+    ensures { result.bytes ≡ written_net net }
+{
+    let mut text = ArrayString::new();
+    push_net(&mut text, net);
+    text
+}
+
 /// The written form of a flat term: its qualifier, its network, and the length of its prefix in bits where that
 /// is not the longest (RFC 7208, section 5.6).
 #[tactic(auto, unfolding(crate::specs::Written::written_flat))]

@@ -120,7 +120,7 @@ label_end (b ∷ d ∷ label) h some =
     let later = label_end (d ∷ label) (and_parts (is_let_dig_hyp b) (list_all is_let_dig_hyp (d ∷ label)) h).1 (omega arith) in
     (b ∷ later.0, (later.1.0, later.1.1, ap (λ t. b ∷ t) later.1.2))
 
-top_bytes : (label : List ℕ) → is_toplabel label ≡ true → list_all is_let_dig_hyp label ≡ true
+pub top_bytes : (label : List ℕ) → is_toplabel label ≡ true → list_all is_let_dig_hyp label ≡ true
 top_bytes label h = (and_parts _ _ (and_parts _ _ (and_parts _ _ h).0).0).0
 
 top_some : (label : List ℕ) → is_toplabel label ≡ true → 0 < length label

@@ -6,4 +6,5 @@ pub mod MacroTexts
 pub mod OneReading
 pub mod PartTexts
 pub mod Spans
+pub mod TargetTexts
 pub mod WrittenForm

@@ -13,11 +13,11 @@ literals_spell (b ∷ bs) h =
     let split = and_parts (is_literal b) (list_all is_literal bs) h in
     (b ∷ [], bs, (split.0, refl), literals_spell bs split.1, refl)
 
-literals_for_all : (text : List ℕ) → list_all is_for_all (map Literal text) ≡ true
+pub literals_for_all : (text : List ℕ) → list_all is_for_all (map Literal text) ≡ true
 literals_for_all [] = refl
 literals_for_all (b ∷ bs) = literals_for_all bs
 
-map_append : (xs ys : List ℕ) → map Literal (xs ++ ys) ≡ map Literal xs ++ map Literal ys
+pub map_append : (xs ys : List ℕ) → map Literal (xs ++ ys) ≡ map Literal xs ++ map Literal ys
 map_append [] ys = refl
 map_append (x ∷ xs) ys = ap (λ rest. Literal x ∷ rest) (map_append xs ys)
 

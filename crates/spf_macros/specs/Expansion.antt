@@ -21,6 +21,7 @@ without_final_dot [] = []
 without_final_dot (b ∷ []) = if b == 46 then [] else b ∷ []
 without_final_dot (b ∷ c ∷ bs) = b ∷ without_final_dot (c ∷ bs)
 
+-- `v` stands for the tree of reversed names of the address's family (RFC 7208, section 7.2)
 abbrev pub family_text : Family → List ℕ
 family_text V4 = codes "in-addr"
 family_text V6 = codes "ip6"
@@ -66,6 +67,7 @@ escaped_byte b =
 abbrev pub in_case : Bool → List ℕ → List ℕ
 in_case upper text = if upper then flat_map escaped_byte text else text
 
+-- a value stands for what the macro makes of it, a need for itself (RFC 7208, section 7.3)
 abbrev pub expanded_macro : Macro → Expanded → Expanded
 expanded_macro m (Out value) = Out (in_case m.upper (transformed m value))
 expanded_macro m (Needs n) = Needs n
@@ -103,6 +105,7 @@ first_short text (next ∷ texts) = if nat_le (length text) 253 then text else f
 abbrev pub cut_to_fit : List ℕ → List ℕ
 cut_to_fit text = first_short text (after_dots text)
 
+-- an expansion without one final dot, cut to fit (RFC 7208, section 7.3)
 abbrev pub fitted : Expanded → Expanded
 fitted (Out text) = Out (cut_to_fit (without_final_dot text))
 fitted (Needs n) = Needs n

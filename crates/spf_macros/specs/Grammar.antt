@@ -42,6 +42,7 @@ SpellsReverse text false = text ≡ []
 abbrev pub delimiters : List (ℕ × ℕ)
 delimiters = enumerate_from 0 (codes ".-+,/_=")
 
+-- a byte that is a delimiter (RFC 7208, section 7.1)
 abbrev pub is_delimiter : ℕ → Bool
 is_delimiter b = list_any (λ d. b == d.1) delimiters
 
@@ -150,6 +151,7 @@ abbrev pub written_macro : Macro → List ℕ
 written_macro m = codes "%{" ++ (letter_byte m.letter m.upper ∷ ((if m.keep == 0 then [] else decimal m.keep)
     ++ ((if m.reverse then codes "r" else []) ++ (filter (is_in_set m.delims) (codes ".-+,/_=") ++ codes "}"))))
 
+-- the written form of a piece (RFC 7208, section 7.1), which is its one spelling unless it is a macro
 abbrev pub written_piece : Piece → List ℕ
 written_piece (Literal b) = b ∷ []
 written_piece Percent = codes "%%"

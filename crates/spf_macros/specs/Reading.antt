@@ -1,4 +1,4 @@
--- What readers of macro texts answer.
+-- What readers of macro texts answer, in the project's own form, over the productions of RFC 7208, section 7.1.
 use Rattle.std.specs.Prelude.{◌≡◌, ℕ, Bool, true, false, ◌||◌, ◌==◌, Option, MatchOption, List, [], ◌∷◌, ◌++◌, IsTrue}
 use Rattle.std.specs.List.{list_all}
 use Rattle.spf_macros.specs.declared.piece.Macro.{Macro}

@@ -1,5 +1,5 @@
 //! Texts that name a domain, as plain text or by macros.
-ghost use Rattle.std.specs.Prelude.{◌≡◌, ◌&&◌, ◌||◌, ◌==◌, IfOk, MatchBool, MatchOption, length, nat_le};
+ghost use Rattle.std.specs.Prelude.{◌≡◌, ◌&&◌, ◌||◌, ◌==◌, IfOk, MatchBool, length, nat_le};
 ghost use Rattle.std.specs.List.{list_all, slice_split};
 ghost use Rattle.spf_macros.specs.Expansion as expansion;
 ghost use Rattle.spf_macros.specs.Grammar.{SpellsMacroText, SpellsDomainSpec};
@@ -64,7 +64,9 @@ fn is_for_all(piece: Piece) -> bool
     }
 }
 
-fn are_for_all(pieces: &[Piece]) -> bool
+/// Whether the pieces may stand in any text: they have no letter c, r or t, which stand in explanations alone
+/// (RFC 7208, section 7.2).
+pub fn are_for_all(pieces: &[Piece]) -> bool
     ensures { result ≡ list_all grammar.is_for_all pieces.now }
 {
     pieces.iter().all(|piece| is_for_all(*piece))
@@ -93,7 +95,7 @@ fn is_domain_spec(text: &[u8], pieces: &[Piece], explain: bool) -> bool
 
 /// The macro text of a domain-spec (RFC 7208, section 7.1), which ends in a dot and a toplabel or in
 /// a macro; `None` exactly where the text is none, or has the letters c, r or t and is no
-/// explanation.
+/// explanation. `AllocError` where there is no memory.
 pub fn read_domain_spec(
     alloc: Global,
     text: &[u8],

@@ -28,7 +28,9 @@ pub enum Need {
 /// The text of an expansion, or its first need.
 #[derive(Drop, Debug)]
 pub enum Expanded {
+    /// The text.
     Out(Bytes),
+    /// What the first macro needs that needs more than the family and the domain.
     Needs(Need),
 }
 
@@ -109,7 +111,8 @@ fn expand_piece(
 
 /// What a macro text expands to for a family of addresses and a domain, whose final dot counts for
 /// nothing (RFC 7208, section 7.3); or what the first macro needs that needs more than these. The
-/// letters c, r and t, which stand in explanations alone, must not be there.
+/// letters c, r and t, which stand in explanations alone, must not be there: `are_for_all` tests it. `AllocError` where
+/// there is no memory.
 pub fn expand(
     alloc: Global,
     pieces: &MacroText,

@@ -30,8 +30,6 @@ pub(crate) fn read_letter(byte: u8) -> Option<(Letter, bool)>
     ensures { MatchOption result ((l : Letter) (upper : Bool) → letter_byte l upper ≢ byte)
         (λ read. letter_byte read.0 read.1 ≡ byte) }
 {
-    match letter_in_lower(byte.to_ascii_lowercase()) {
-        Some(letter) => Some((letter, byte.is_ascii_uppercase())),
-        None => None,
-    }
+    let letter = letter_in_lower(byte.to_ascii_lowercase())?;
+    Some((letter, byte.is_ascii_uppercase()))
 }

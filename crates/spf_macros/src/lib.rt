@@ -16,7 +16,7 @@ mod transformers;
 mod words;
 mod write;
 
-pub use domain::read_domain_spec;
+pub use domain::{are_for_all, read_domain_spec};
 pub use expansion::{Expanded, Need, expand};
 pub use laws::{one_macro_text, written_macro_text};
 pub use piece::{Letter, Macro, MacroText, Piece};

@@ -23,21 +23,13 @@ fn read_close(text: &[u8]) -> Option<&[u8]>
 fn read_macro(text: &[u8]) -> Option<(Macro, &[u8])>
     ensures { ReadsFirst SpellsBehind text.now result }
 {
-    let Some((first, rest)) = text.split_first() else {
-        return None;
-    };
-    let Some((letter, upper)) = read_letter(*first) else {
-        return None;
-    };
+    let (first, rest) = text.split_first()?;
+    let (letter, upper) = read_letter(*first)?;
     let (digits, rest) = split_digits(rest);
-    let Some(keep) = read_keep(digits) else {
-        return None;
-    };
+    let keep = read_keep(digits)?;
     let (reverse, rest) = read_reverse(rest);
     let (delimiters, rest) = split_delimiters(rest);
-    let Some(rest) = read_close(rest) else {
-        return None;
-    };
+    let rest = read_close(rest)?;
     let delims = delimiter_set(delimiters);
     let read = Macro {
         letter,
@@ -64,16 +56,17 @@ fn read_piece(text: &[u8]) -> Option<(Piece, &[u8])>
         [b'%', b'%', rest @ ..] => Some((Piece::Percent, rest)),
         [b'%', b'_', rest @ ..] => Some((Piece::Space, rest)),
         [b'%', b'-', rest @ ..] => Some((Piece::Percent20, rest)),
-        [b'%', b'{', rest @ ..] => match read_macro(rest) {
-            Some((read, rest)) => Some((Piece::Expand(read), rest)),
-            None => None,
-        },
+        [b'%', b'{', rest @ ..] => {
+            let (read, rest) = read_macro(rest)?;
+            Some((Piece::Expand(read), rest))
+        }
         [byte, rest @ ..] if is_literal(*byte) => Some((Piece::Literal(*byte), rest)),
         _ => None,
     }
 }
 
 /// The macro text that a text spells (RFC 7208, section 7.1); `None` exactly where it spells none.
+/// `AllocError` where there is no memory.
 pub fn read_macro_text(alloc: Global, text: &[u8]) -> Result<Option<MacroText>, AllocError>
     ensures { IfOk result (Reads SpellsMacroText text.now) }
 {

@@ -44,7 +44,8 @@ fn cut_to_fit(text: &[u8]) -> &[u8]
 
 /// The text that a domain-spec asks for (RFC 7208, section 7.3): its expansion without one final dot, which loses its
 /// first label and the dot after it while it has more than 253 characters and a dot; or what the first macro needs
-/// that needs more than the family and the domain. The letters c, r and t must not be there.
+/// that needs more than the family and the domain. The letters c, r and t must not be there: `are_for_all` tests it.
+/// `AllocError` where there is no memory.
 pub fn target(
     alloc: Global,
     pieces: &MacroText,

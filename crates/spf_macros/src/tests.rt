@@ -1,4 +1,5 @@
 use super::*;
+use crate::transformers::split_digits;
 use addr_bits::{Bytes, Family};
 use std::alloc::{AllocError, Global};
 use std::test::Fail;
@@ -40,6 +41,37 @@ const NOT_LABELS: [&str; 5] = [
     "_a.b",
     "_a b",
     "_123456789-123456789-123456789-123456789-123456789-123456789-1",
+];
+
+// A text, and whether it is one or more labels of a domain.
+const DOMAIN_LABELS: [(&str, bool); 7] = [
+    ("a", true),
+    ("_x.1.c_m", true),
+    ("", false),
+    ("a.", false),
+    ("a..b", false),
+    ("a.-b", false),
+    ("a b", false),
+];
+
+// A text, how many digits it begins with, and the number that they make, held at 255.
+const NUMBERS: [(&str, usize, u8); 6] = [
+    ("", 0, 0),
+    ("x1", 0, 0),
+    ("007r", 3, 7),
+    ("254/1", 3, 254),
+    ("256", 3, 255),
+    ("1000.", 4, 255),
+];
+
+// A macro text, and whether it may stand outside of explanations.
+const FOR_ALL: [(&str, bool); 6] = [
+    ("", true),
+    ("crt%%%_%-", true),
+    ("%{s}%{L}%{o}%{d2r}%{i}%{p}%{V}%{h}", true),
+    ("%{d}.%{c}", false),
+    ("%{R}", false),
+    ("%{t}.a", false),
 ];
 
 // A domain-spec, a family and a domain, and what it expands to.
@@ -135,6 +167,27 @@ fn words(rt: HostRuntime) {
     for text in NOT_LABELS {
         assert!(rt; !is_label(text.as_bytes()), "at {text}");
     }
+    for (text, answer) in DOMAIN_LABELS {
+        assert_eq!(rt; are_domain_labels(text.as_bytes()), answer, "at {text}");
+    }
+}
+
+#[test]
+fn numbers(rt: HostRuntime) {
+    for (text, count, number) in NUMBERS {
+        let (digits, _) = split_digits(text.as_bytes());
+        assert_eq!(rt; digit_count(text.as_bytes()), count, "at {text}");
+        assert_eq!(rt; held_number(digits), number, "at {text}");
+    }
+}
+
+#[test]
+fn pieces_for_all(rt: HostRuntime) -> Result<(), Fail> {
+    for (text, answer) in FOR_ALL {
+        let pieces = read_macro_text(rt.alloc(), text.as_bytes())?.ok_or("no macro text")?;
+        assert_eq!(rt; are_for_all(pieces.as_slice()), answer, "at {text}");
+    }
+    Ok(())
 }
 
 #[test]

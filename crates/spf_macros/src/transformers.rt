@@ -1,5 +1,5 @@
 //! What stands behind a macro letter: a number, `r` and delimiters (RFC 7208, section 7.1).
-ghost use Rattle.std.specs.Prelude.{◌≡◌, ◌++◌, ◌==◌, min, IsTrue, if◌then◌else◌};
+ghost use Rattle.std.specs.Prelude.{◌≡◌, ◌==◌, min, IsTrue, if◌then◌else◌};
 ghost use Rattle.std.specs.List.{list_all, list_any, prefix_len};
 ghost use Rattle.std.specs.Char.{is_ascii_digit};
 ghost use Rattle.std.specs.Str.Parse.{digits_value};

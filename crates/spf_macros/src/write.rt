@@ -111,7 +111,8 @@ fn write_pieces(text: &mut Bytes, pieces: &[Piece]) -> Result<(), AllocError>
 }
 
 /// The written form of a macro text: numbers as they are held, `r` in lower case, and delimiters in
-/// the order of the grammar. It is read back as the macro text (RFC 7208, section 7.1).
+/// the order of the grammar. It is read back as the macro text (RFC 7208, section 7.1). `AllocError` where there is no
+/// memory.
 pub fn write_macro_text(alloc: Global, pieces: &MacroText) -> Result<Bytes, AllocError>
     requires { IsMacroText pieces.now }
     ensures text { IfOk result (λ text. text ≡ written pieces.now) }

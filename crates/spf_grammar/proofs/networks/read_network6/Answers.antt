@@ -5,18 +5,18 @@ use Rattle.addr_bits.proofs.Texts.{one_address}
 use Rattle.spf_grammar.proofs.HostCuts.{no_address, no_network_len, network_read}
 use Rattle.spf_grammar.proofs.networks.read_network6.Goals as goal
 
+pub returns-in_err-network : goal.returns-in_err-network
+returns-in_err-network c = rw c.from_residual.ensures (λ p h. c.in_err-network.ensures (h.network ++ h.after) h.whole)
+
 pub returns-in_default : goal.returns-in_default
-returns-in_default c = λ p h. c.in_default.ensures (h.network ++ h.after) h.whole
+returns-in_default c =
+    no_address SpellsIp6 128 c.args.text.now c.in_ok-network.network.now c.split_slash.result.0.now c.split_slash.result.1.now one_address.bytes6 c.in_ok-network.ensures c.split_slash.ensures c.in_default.ensures
 
-pub returns-in_default-read_ip6 : goal.returns-in_default-read_ip6
-returns-in_default-read_ip6 c =
-    no_address SpellsIp6 128 c.args.text.now c.in-Some.network.now c.split_slash.result.0.now c.split_slash.result.1.now one_address.bytes6 c.in-Some.ensures c.split_slash.ensures c.in_default-read_ip6.ensures
-
-pub returns-in_default-read_len : goal.returns-in_default-read_len
-returns-in_default-read_len c =
-    no_network_len SpellsIp6 128 c.args.text.now c.in-Some.network.now c.split_slash.result.0.now c.split_slash.result.1.now one_address.bytes6 c.in-Some.ensures c.split_slash.ensures c.in_default-read_len.ensures
+pub returns-in_err-len : goal.returns-in_err-len
+returns-in_err-len c =
+    rw c.from_residual-in_err-len.ensures (no_network_len SpellsIp6 128 c.args.text.now c.in_ok-network.network.now c.split_slash.result.0.now c.split_slash.result.1.now one_address.bytes6 c.in_ok-network.ensures c.split_slash.ensures c.in_err-len.ensures)
 
 pub returns : goal.returns
 returns c =
-    network_read SpellsIp6 128 c.new.result c.args.text.now c.in-Some.network.now c.split_slash.result.0.now c.split_slash.result.1.now c.in-Ok.address c.in-Some-read_len.len c.in-Some.ensures
-    c.split_slash.ensures c.in-Ok.ensures c.in-Some-read_len.ensures (c.new.ensures.value ∙ ap (λ (k : ℕ). cidr_of 128 k c.in-Ok.address) c.from.ensures)
+    network_read SpellsIp6 128 c.new.result c.args.text.now c.in_ok-network.network.now c.split_slash.result.0.now c.split_slash.result.1.now c.in-Ok.address c.in_ok-len.len c.in_ok-network.ensures
+    c.split_slash.ensures c.in-Ok.ensures c.in_ok-len.ensures (c.new.ensures.value ∙ ap (λ (k : ℕ). cidr_of 128 k c.in-Ok.address) c.from.ensures)
