@@ -1,4 +1,3 @@
-pub mod Blocks
 pub mod Cidrs
 pub mod StdGrammar
 pub mod StdText

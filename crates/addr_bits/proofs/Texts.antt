@@ -22,11 +22,6 @@ use Rattle.addr_bits.proofs.StdText.{written_same}
 
 -- ---- numbers and their parts
 
-pub octets_in_number : (n : ℕ) → n < 2 ^ 32 → to_be_bytes w32 n ≡ octets_of n
-octets_in_number n small =
-    let high : n / 2 ^ 24 % 256 ≡ n / 2 ^ 24 = omega arith in
-    ap (λ (o : ℕ). o ∷ n / 2 ^ 16 % 256 ∷ n / 2 ^ 8 % 256 ∷ n % 256 ∷ []) high
-
 pub groups_in_number : (n : ℕ) → n < 2 ^ 128 → segments_of (to_be_bytes w128 n) ≡ groups_of n
 groups_in_number n small =
     let e0 : n / 2 ^ 120 % 256 * 256 + n / 2 ^ 112 % 256 ≡ n / 2 ^ 112 = omega arith in

@@ -14,7 +14,6 @@ pub struct Prefix<W: Width> {
 }
 
 impl<W: Width> Model for Prefix<W> {
-    ghost use Rattle.std.specs.Prelude.{ℕ};
     ghost use Rattle.std.proofs.Common.{ap};
     ghost use Rattle.addr_bits.specs.Prefix.{Cidr, IsCidr};
 

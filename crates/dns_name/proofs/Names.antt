@@ -1,7 +1,7 @@
 -- Names, their children, and what stands under them.
 use Rattle.std.proofs.Common.{◌≡◌, ◌≢◌, ℕ, ◌+◌, ◌-◌, ◌<◌, ◌≤◌, Bool, true, false, cond, Ok, Err, List, [], ◌∷◌, ◌++◌, length, take, drop, map, bytes_eq, Decides, Option, Some, None, Result, refl, sym, ap, ap₂, ◌∙◌, arith, length-append, take-append-drop, drop_at, IsTrue, true≢false, nat_lt, lt-ltb, le-ltb, ltb-true, ◌==◌, not, ◌↔◌}
 use Rattle.std.proofs.lemmas.List.{length-map}
-use Rattle.std.proofs.lemmas.Bool.{eqb-false, ltb-false, ne_eqb}
+use Rattle.std.proofs.lemmas.Bool.{eqb-false, ltb-false, ne_eqb, not-false}
 use Rattle.std.proofs.lemmas.Bool.Decides.{same_from_decides}
 use Rattle.std.specs.Cmp.Lexicographic.{pointwise, pointwise_decides, bytes_decides}
 use Rattle.std.specs.List.{AllByRecursion}
@@ -74,11 +74,7 @@ not_at rest top other w t h e = no (bytes_eq rest top) h ((bytes_decides rest to
     no false h k = true≢false (sym k)
 
 pub at : (rest top : List ℕ) → not (bytes_eq rest top) ≡ false → rest ≡ top
-at rest top h = (bytes_decides rest top).0 (yes (bytes_eq rest top) h)
-  where
-    yes : (s : Bool) → not s ≡ false → s ≡ true
-    yes true h = refl
-    yes false h = absurd (true≢false h)
+at rest top h = (bytes_decides rest top).0 (not-false (bytes_eq rest top) h)
 
 -- ---- a child
 
@@ -198,7 +194,8 @@ length-lower (label ∷ labels) =
     let same : length (lowercase_label label) ≡ length label = simp length-map in
     omega (arith, same, length-lower labels, length-append label (wire_form labels), length-append (lowercase_label label) (wire_form (map lowercase_label labels)))
 
-length-back : (front labels : List (List ℕ)) → length (wire_form labels) ≤ length (wire_form (front ++ labels))
+-- labels in front make a name no shorter
+pub length-back : (front labels : List (List ℕ)) → length (wire_form labels) ≤ length (wire_form (front ++ labels))
 length-back [] labels = omega arith
 length-back (label ∷ front) labels = omega (arith, length-back front labels, length-append label (wire_form (front ++ labels)))
 

@@ -1,5 +1,5 @@
 //! Labels, alone and on the wire.
-ghost use Rattle.std.specs.Prelude.{◌≡◌, ℕ, ◌+◌, ◌<◌, ◌≤◌, None, Some, [], ◌∷◌, ◌++◌, length, map, MatchOption, MatchResult, bytes_eq};
+ghost use Rattle.std.specs.Prelude.{◌≡◌, ◌+◌, ◌<◌, ◌≤◌, None, Some, [], ◌∷◌, ◌++◌, length, map, MatchOption, MatchResult, bytes_eq};
 ghost use Rattle.std.specs.Char.{to_ascii_lowercase};
 ghost use Rattle.arrayvec.specs.ArrayVec.{array_vec_len};
 ghost use Rattle.dns_name.specs.Name.{label_fault, first_fault, is_dot, IsWire};
@@ -11,7 +11,7 @@ use crate::fault::NameFault;
 use arrayvec::ArrayVec;
 
 /// The most octets of a label (RFC 1035, section 2.3.4).
-pub(crate) const MAX_LABEL: usize = 63;
+pub const MAX_LABEL: usize = 63;
 
 /// The most octets of a name on the wire (RFC 1035, section 2.3.4).
 pub(crate) const MAX_NAME: usize = 255;
@@ -74,9 +74,9 @@ pub(crate) fn append(wire: &mut ArrayVec<u8, 255>, octets: &[u8])
     requires { array_vec_len wire.old + length octets.now ≤ 255 }
     ensures { wire.new.items ≡ wire.old.items ++ octets.now }
 {
-    for octet in octets {
-        wire.push(*octet);
-    }
+    let Ok(()) = wire.try_extend_from_slice(octets) else {
+        unreachable!()
+    };
 }
 
 /// Appends octets in lower case, for which there is room.

@@ -8,7 +8,7 @@ mod name;
 mod printed;
 
 pub use fault::NameFault;
-pub use label::without_final_dot;
+pub use label::{MAX_LABEL, without_final_dot};
 pub use name::Name;
 
 #[cfg(test)]

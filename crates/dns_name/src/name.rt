@@ -1,5 +1,5 @@
 //! Names, which contracts see as the list of their labels.
-ghost use Rattle.std.specs.Prelude.{◌≡◌, ℕ, ◌↔◌, List, [], ◌∷◌, length, IsNone, IsTrue, None, IfOk, IfNone, IfSome, option_map};
+ghost use Rattle.std.specs.Prelude.{◌≡◌, ℕ, ◌↔◌, List, [], length, IsTrue, None, IfOk, IfNone, IfSome, option_map};
 
 use crate::fault::NameFault;
 use crate::label::{
@@ -208,7 +208,7 @@ impl Name {
     }
 
     /// The printed form: labels joined by dots without a final dot, the root as `.`, and bytes that are not printed as
-    /// themselves as `\\` and three decimal digits.
+    /// themselves as `\` and three decimal digits.
     pub fn write_text(&self, alloc: Global) -> Result<Vec<u8>, AllocError>
         ensures { IfOk result (λ text. text.items ≡ printed_name self.now) }
     {

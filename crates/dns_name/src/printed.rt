@@ -1,9 +1,8 @@
 //! The printed forms of bytes and labels.
-ghost use Rattle.std.specs.Prelude.{◌≡◌, ℕ, ◌<◌, ◌≤◌, List, [], ◌∷◌, ◌++◌, flat_map, length, MatchOption, IfOk};
+ghost use Rattle.std.specs.Prelude.{◌≡◌, ℕ, ◌<◌, List, [], ◌∷◌, ◌++◌, flat_map, MatchOption, IfOk};
 ghost use Rattle.std.specs.Char.{to_ascii_lowercase};
 ghost use Rattle.dns_name.specs.Printed.{printed_byte, escaped_byte, is_plain, ArePrintable};
 
-use crate::label::MAX_LABEL;
 use arrayvec::ArrayVec;
 use std::alloc::AllocError;
 

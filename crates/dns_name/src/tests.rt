@@ -1,6 +1,7 @@
 //! Texts and names with their values.
 
-use crate::{Name, NameFault};
+use crate::laws::printed_names_differ;
+use crate::{Name, NameFault, without_final_dot};
 use std::alloc::AllocError;
 
 const LETTERS: [u8; 64] = [b'a'; 64];
@@ -63,20 +64,10 @@ fn long_texts_are_bounded(rt: HostRuntime) -> Result<(), AllocError> {
 
 #[test]
 fn printed_forms_are_read_back(rt: HostRuntime) -> Result<(), AllocError> {
-    for text in [
-        ".",
-        "www.example.com",
-        "a\\046b.x",
-        "\\000\\255.\\065b",
-        "\\064\\036.com",
-    ] {
-        let read = Name::from_printed(text.as_bytes());
-        if text.contains("\\065") {
-            assert!(rt; read.is_none(), "at {text}");
-        } else {
-            let form = read.expect(&rt, "a name").write_text(rt.alloc())?;
-            assert_eq!(rt; form.as_slice(), text.as_bytes());
-        }
+    for text in [".", "www.example.com", "a\\046b.x", "\\064\\036.com"] {
+        let name = Name::from_printed(text.as_bytes()).expect(&rt, text);
+        let form = name.write_text(rt.alloc())?;
+        assert_eq!(rt; form.as_slice(), text.as_bytes());
     }
     Ok(())
 }
@@ -118,6 +109,25 @@ fn names_below_names(rt: HostRuntime) -> Result<(), NameFault> {
         assert_eq!(rt; below, want, "{name} under {top}");
     }
     Ok(())
+}
+
+#[test]
+fn one_final_dot_is_dropped(rt: HostRuntime) {
+    for (text, want) in [
+        ("a.b.", "a.b"),
+        ("a.b", "a.b"),
+        ("a..", "a."),
+        (".", ""),
+        ("", ""),
+    ] {
+        let left = without_final_dot(text.as_bytes());
+        assert_eq!(rt; left, want.as_bytes(), "at {text}");
+    }
+}
+
+#[test]
+fn laws() {
+    printed_names_differ();
 }
 
 #[test]

@@ -1,5 +1,5 @@
 -- The next entry of whole bytes, from what a cutter answers.
-use Rattle.std.proofs.Common.{◌≡◌, ℕ, ◌+◌, ◌-◌, ◌^◌, ◌<◌, ◌≤◌, List, [], ◌∷◌, ◌++◌, length, take, drop, get_or, suc, take-append-drop, length-drop, Option, Some, None, sym, ap, subst, ◌∙◌, append_assoc, arith, length-append, refl, filter, ap₂, append-nil, cond, inl, inr, ◌⊎◌}
+use Rattle.std.proofs.Common.{◌≡◌, ℕ, ◌+◌, ◌-◌, ◌^◌, ◌<◌, ◌≤◌, List, [], ◌∷◌, ◌++◌, length, take, drop, get_or, suc, take-append-drop, Option, Some, None, sym, ap, subst, ◌∙◌, append_assoc, arith, length-append, refl, filter, ap₂, append-nil, cond, inl, inr, ◌⊎◌}
 use Rattle.std.specs.Prelude.{option_to_list, MatchOption, IfSome, IsTrue}
 use Rattle.master_lex.specs.declared.entry.Entry.{Entry}
 use Rattle.master_lex.specs.declared.fault.LexKind.{LexKind}
@@ -9,12 +9,13 @@ use Rattle.master_lex.specs.Items.{is_feed}
 use Rattle.master_lex.specs.Entries.{AreEntries, lines_in, has_token}
 use Rattle.master_lex.specs.File.{IsNext, IsNoneLeft, IsNextBroken}
 use Rattle.master_lex.specs.Pieces.{Kept, StandsFor, IsBrokenAt, IsDecidedAt, Closes, EndsWith, AreAll, FaultIs}
-use Rattle.std.proofs.Math.Seq.{drop-cons, drop-length, take_all}
+use Rattle.std.proofs.Math.Seq.{drop-cons, drop-length}
 use Rattle.std.proofs.lemmas.List.Sums.{count_by-le-length}
 use Rattle.master_lex.proofs.Order.{entries_left, entries_rise, entries_more, spelled_some, compared}
 use Rattle.master_lex.proofs.Reach.{broken_more}
 use Rattle.master_lex.proofs.Pieces.{decided_some, none_broken}
 use Rattle.master_lex.proofs.Readings.{not_both}
+use Rattle.std.proofs.lemmas.List.{take_rest}
 use Rattle.std.proofs.lemmas.List.Elements.{filter-append}
 
 -- an entry that a byte closes is the next one
@@ -97,11 +98,8 @@ cut_at bytes k h = sym (take-append-drop k bytes) ∙ ap (λ (b : List ℕ). tak
     next : suc k ≡ k + 1
     next = omega arith
 
-pub slice_end : (bytes : List ℕ) (k : ℕ) → take (length bytes - k) (drop k bytes) ≡ drop k bytes
-slice_end bytes k = take_all (length bytes - k) (drop k bytes) (omega (arith, length-drop k bytes))
-
 pub slice_none : (bytes : List ℕ) → take (length bytes - length bytes) (drop (length bytes) bytes) ≡ []
-slice_none bytes = slice_end bytes (length bytes) ∙ drop-length bytes
+slice_none bytes = take_rest bytes (length bytes) ∙ drop-length bytes
 
 -- ---- one answer
 

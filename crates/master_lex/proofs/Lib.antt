@@ -1,7 +1,6 @@
 pub mod Machine
 pub mod Readings
 pub mod Standing
-pub mod Examples
 pub mod Order
 pub mod Reach
 pub mod Pieces

@@ -1,5 +1,6 @@
 -- A machine that takes an entry byte by byte. Items lead it from state to state, so that a text has one reading at most.
 use Rattle.std.proofs.Common.{◌≡◌, ℕ, zero, suc, ◌+◌, ◌/◌, ◌%◌, ◌<◌, Bool, true, false, cond, not, ◌&&◌, List, [], ◌∷◌, ◌++◌, map, refl, sym, ap, ◌∙◌, append_assoc, append-nil, arith, nat_le, ◌==◌, true≢false, le-leb, ltb-true}
+use Rattle.std.proofs.lemmas.Bool.{and_from}
 use Rattle.std.specs.List.{list_all}
 use Rattle.std.specs.Char.{is_ascii_digit}
 use Rattle.master_lex.specs.declared.entry.Octet.{Octet}
@@ -45,12 +46,9 @@ unless false x y h = refl
 
 -- ---- glyphs
 
-both : (a b : Bool) → a ≡ true → b ≡ true → (a && b) ≡ true
-both true b h k = k
-both false b h k = h
-
-is_digit : (x : ℕ) → x < 10 → is_ascii_digit (48 + x) ≡ true
-is_digit x h = both (nat_le 48 (48 + x)) (nat_le (48 + x) 57) (le-leb 48 (48 + x) (omega arith)) (le-leb (48 + x) 57 (omega (arith, h)))
+-- the bytes of digits
+pub is_digit : (x : ℕ) → x < 10 → is_ascii_digit (48 + x) ≡ true
+is_digit x h = and_from (nat_le 48 (48 + x)) (nat_le (48 + x) 57) (le-leb 48 (48 + x) (omega arith)) (le-leb (48 + x) 57 (omega (arith, h)))
 
 plain_bare : (d : ℕ) (tokens : List Token) (units : List Octet) (b : ℕ) → is_plain_glyph (bare b) ≡ true
     → step d tokens (InToken false units Unescaped) b ≡ Goes d tokens (InToken false (units ++ octet_of (bare b) ∷ []) Unescaped)
@@ -70,7 +68,7 @@ pub at_marked : (quoted : Bool) (d : ℕ) (tokens : List Token) (units : List Oc
 at_marked true d tokens units b h = when (is_escape (marked b)) _ _ h
 at_marked false d tokens units b h = when (is_escape (marked b)) _ _ h
 
-no_mark : (b : ℕ) → is_ascii_digit b ≡ true → is_escape (marked b) ≡ false
+pub no_mark : (b : ℕ) → is_ascii_digit b ≡ true → is_escape (marked b) ≡ false
 no_mark b h = ap (λ t. not t && not (is_feed b) && not (b == 13)) h
 
 pub at_first : (quoted : Bool) (d : ℕ) (tokens : List Token) (units : List Octet) (b : ℕ) → is_ascii_digit b ≡ true
@@ -86,10 +84,10 @@ at_second false d tokens units x b h = when (is_ascii_digit b) _ _ h
 pub at_third : (quoted : Bool) (d : ℕ) (tokens : List Token) (units : List Octet) (x y b n : ℕ) → is_ascii_digit b ≡ true → value_of x y b ≡ n → is_escape (numbered n) ≡ true
     → step d tokens (InToken quoted units (TwoDigits x y)) b ≡ Goes d tokens (InToken quoted (units ++ octet_of (numbered n) ∷ []) Unescaped)
 at_third true d tokens units x y b n h v small =
-    when (is_ascii_digit b && is_escape (numbered (value_of x y b))) _ _ (both (is_ascii_digit b) (is_escape (numbered (value_of x y b))) h (ap (λ (k : ℕ). is_escape (numbered k)) v ∙ small))
+    when (is_ascii_digit b && is_escape (numbered (value_of x y b))) _ _ (and_from (is_ascii_digit b) (is_escape (numbered (value_of x y b))) h (ap (λ (k : ℕ). is_escape (numbered k)) v ∙ small))
     ∙ ap (λ (k : ℕ). Goes d tokens (InToken true (units ++ octet_of (numbered k) ∷ []) Unescaped)) v
 at_third false d tokens units x y b n h v small =
-    when (is_ascii_digit b && is_escape (numbered (value_of x y b))) _ _ (both (is_ascii_digit b) (is_escape (numbered (value_of x y b))) h (ap (λ (k : ℕ). is_escape (numbered k)) v ∙ small))
+    when (is_ascii_digit b && is_escape (numbered (value_of x y b))) _ _ (and_from (is_ascii_digit b) (is_escape (numbered (value_of x y b))) h (ap (λ (k : ℕ). is_escape (numbered k)) v ∙ small))
     ∙ ap (λ (k : ℕ). Goes d tokens (InToken false (units ++ octet_of (numbered k) ∷ []) Unescaped)) v
 
 value_back : (b : ℕ) → b < 256 → value_of (48 + b / 100) (48 + b / 10 % 10) (48 + b % 10) ≡ b

@@ -91,7 +91,7 @@ decided_not_alive : (bytes : List ℕ) (kind : LexKind) (place : ℕ) → IsBrok
 decided_not_alive bytes kind place b d a = let e : broken kind ≡ alive = sym (decided_run bytes kind place b d) ∙ a in absurd cc
 
 -- an entry is closed in no bytes that come to a part
-alive_not_spelled : (rest text after : List ℕ) (entry : Entry) → run still 0 [] Outside rest ≡ alive → rest ≡ text ++ after → Spells text after entry → after ≢ [] → ⊥
+pub alive_not_spelled : (rest text after : List ℕ) (entry : Entry) → run still 0 [] Outside rest ≡ alive → rest ≡ text ++ after → Spells text after entry → after ≢ [] → ⊥
 alive_not_spelled rest text after entry a is s some = by (spelled_run text after entry s)
   where
     by : ((run still 0 [] Outside (text ++ after) ≡ closed entry.tokens after) ⊎ ((run still 0 [] Outside (text ++ after) ≡ alive) × (after ≡ []))) → ⊥

@@ -1,5 +1,6 @@
 -- The machine comes to the part that is kept, and to each decided fault.
 use Rattle.std.proofs.Common.{◌≡◌, ◌≢◌, ℕ, ◌+◌, ◌<◌, Bool, true, false, cond, ◌&&◌, ◌||◌, ◌==◌, List, [], ◌∷◌, ◌++◌, map, length, drop, refl, sym, ap, ap₂, subst, ◌∙◌, append_assoc, append-nil, inl, inr, ◌⊎◌, arith, nat_lt, true≢false, length-append, lt-ltb, ltb-true, ◌/◌, ◌%◌}
+use Rattle.std.proofs.lemmas.Bool.{and_from}
 use Rattle.std.proofs.Math.Seq.{drop-append-add}
 use Rattle.std.specs.List.{list_all}
 use Rattle.std.specs.Char.{is_ascii_digit}
@@ -18,13 +19,9 @@ use Rattle.master_lex.specs.Items.{Glyph, bare, marked, numbered, glyphs_text, o
 use Rattle.master_lex.specs.Entries.{Spells}
 use Rattle.master_lex.specs.Broken.{IsBroken, IsDecided, IsInQuotes, IsOutside, IsLineEnd, NoEscape, is_judged, ends_in_comment}
 use Rattle.master_lex.specs.Pieces.{ends_in_plain, AreDone, escape_text, HasBegun, ComesTo}
-use Rattle.master_lex.proofs.Machine.{Outcome, closed, broken, alive, run, run_go, run_fails, glyphs_run, unless, at_slash, at_first, at_second}
-use Rattle.master_lex.proofs.Standing.{judged_first, judged_second, judged_third, is_digit}
+use Rattle.master_lex.proofs.Machine.{Outcome, closed, broken, alive, run, run_go, run_fails, glyphs_run, is_digit, unless, at_slash, at_first, at_second}
+use Rattle.master_lex.proofs.Standing.{judged_first, judged_second, judged_third}
 use Rattle.master_lex.proofs.Readings.{Good, still, good_still, EndsPlain, Ends, ends_at_feed, ends_at_end, items_run, plain_runs, comment_runs, outside_runs, quotes_run, no_mark, no_number}
-
-both : (a b : Bool) → a ≡ true → b ≡ true → (a && b) ≡ true
-both true b h k = k
-both false b h k = h
 
 -- ---- what may stand behind items
 
@@ -100,7 +97,7 @@ module _ (end : ℕ → List Token → Part → Outcome) (good : Good end) where
       run_go end d tokens (InToken false [] Slash) x (y ∷ more) d tokens (InToken false [] (OneDigit x)) (at_first false d tokens [] x h.0)
       ∙ run_go end d tokens (InToken false [] (OneDigit x)) y more d tokens (InToken false [] (TwoDigits x y)) (at_second false d tokens [] x y h.1)
   plain_on d tokens (g ∷ glyphs) escape more each h =
-      plain_runs end good d tokens (g ∷ glyphs) (escape_text escape ++ more) (both (nat_lt 0 (length (g ∷ glyphs))) (list_all is_plain_glyph (g ∷ glyphs)) (lt-ltb 0 (length (g ∷ glyphs)) (omega arith)) each)
+      plain_runs end good d tokens (g ∷ glyphs) (escape_text escape ++ more) (and_from (nat_lt 0 (length (g ∷ glyphs))) (list_all is_plain_glyph (g ∷ glyphs)) (lt-ltb 0 (length (g ∷ glyphs)) (omega arith)) each)
       ∙ escape_on false d tokens (map octet_of (g ∷ glyphs)) (g ∷ glyphs) escape more h
 
   done_on : (apart : Bool) (items : List Item) (d : ℕ) (tokens : List Token) (bytes : List ℕ) → AreDone apart items d tokens → Ends items bytes → run end 0 [] Outside (items_text items ++ bytes) ≡ run end d tokens Outside bytes

@@ -140,7 +140,7 @@ ends_at_end (item ∷ next ∷ items) = ends_at_end (next ∷ items)
 
 -- ---- a `\` without an escape
 
-digit_is : (x : ℕ) → is_ascii_digit x ≡ true → (48 ≤ x) × (x ≤ 57)
+pub digit_is : (x : ℕ) → is_ascii_digit x ≡ true → (48 ≤ x) × (x ≤ 57)
 digit_is x h = let p = both_parts (nat_le 48 x) (nat_le x 57) h in (leb-true 48 x p.0, leb-true x 57 p.1)
 
 pub no_mark : (b : ℕ) (rest : List ℕ) → NoEscape (b ∷ rest) → is_escape (marked b) ≡ false

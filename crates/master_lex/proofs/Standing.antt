@@ -1,5 +1,6 @@
 -- What the machine's states stand for: a state stands for the bytes that led to it, and each byte does what the definitions say.
-use Rattle.std.proofs.Common.{◌≡◌, ℕ, zero, suc, ◌+◌, ◌/◌, ◌%◌, ◌<◌, ◌≤◌, Bool, true, false, cond, not, ◌&&◌, ◌||◌, List, [], ◌∷◌, ◌++◌, map, Some, option_and_then, refl, sym, ap, ap₂, subst, ◌∙◌, append_assoc, append-nil, inl, inr, ◌⊎◌, arith, nat_lt, nat_le, ◌==◌, length, ◌≢◌, true≢false, eqb-true, lt-ltb, length-append, leb-true, le-leb, ltb-true, take, drop}
+use Rattle.std.proofs.Common.{◌≡◌, ℕ, zero, suc, ◌+◌, ◌/◌, ◌%◌, ◌<◌, Bool, true, false, cond, not, ◌&&◌, ◌||◌, List, [], ◌∷◌, ◌++◌, map, Some, option_and_then, refl, sym, ap, ap₂, subst, ◌∙◌, append_assoc, append-nil, inl, inr, ◌⊎◌, arith, nat_lt, ◌==◌, length, ◌≢◌, true≢false, eqb-true, lt-ltb, length-append, ltb-true, take, drop}
+use Rattle.std.proofs.lemmas.Bool.{and_from, not-false}
 use Rattle.std.proofs.Math.Seq.{drop-append-add}
 use Rattle.std.specs.List.{list_all, list_any, prefix_len}
 use Rattle.std.specs.Char.{is_ascii_digit}
@@ -20,8 +21,8 @@ use Rattle.master_lex.specs.declared.part.Step.{Step}
 use Rattle.master_lex.specs.declared.part.Step.TheVariants.{Goes, Closes, Fails}
 use Rattle.master_lex.specs.Steps.{with_token, at_feed, at_closing, at_mark, step, value_of}
 use Rattle.master_lex.specs.Pieces.{may_stand, opening_text, escape_text, HasBegun}
-use Rattle.master_lex.proofs.Machine.{Outcome, closed, broken, alive, at_end_of, at_end, run, when, both_parts}
-use Rattle.master_lex.proofs.Readings.{some_is, in_place, tokens_of-cons}
+use Rattle.master_lex.proofs.Machine.{Outcome, closed, broken, alive, at_end_of, at_end, run, when, is_digit, no_mark, both_parts}
+use Rattle.master_lex.proofs.Readings.{digit_is, some_is, in_place, tokens_of-cons}
 
 -- ---- an item more
 
@@ -61,13 +62,9 @@ precede_end (quoted glyphs) = refl
 precede_end (comment text) = refl
 precede_end (plain glyphs) = refl
 
-both : (a b : Bool) → a ≡ true → b ≡ true → (a && b) ≡ true
-both true b h k = k
-both false b h k = h
-
 placed : (d : ℕ) (item : Item) (items : List Item) (k e : ℕ) → is_item item ≡ true → may_precede item items ≡ true → depth_behind d item ≡ Some k → depth_after k items ≡ Some e → depth_after d (item ∷ items) ≡ Some e
 placed d item items k e ok before first others =
-    when (is_item item && may_precede item items) _ _ (both (is_item item) (may_precede item items) ok before)
+    when (is_item item && may_precede item items) _ _ (and_from (is_item item) (may_precede item items) ok before)
     ∙ ap (option_and_then (λ n. depth_after n items)) first ∙ others
 
 depth_snoc : (d : ℕ) (items : List Item) (m : ℕ) (item : Item) (e : ℕ) → depth_after d items ≡ Some m → is_item item ≡ true → fits items item ≡ true → depth_behind m item ≡ Some e
@@ -122,8 +119,8 @@ octets_snoc [] g = refl
 octets_snoc (h ∷ glyphs) g = ap (λ (t : List Octet). octet_of h ∷ t) (octets_snoc glyphs g)
 
 all_snoc : (test : Glyph → Bool) (glyphs : List Glyph) (g : Glyph) → list_all test glyphs ≡ true → test g ≡ true → list_all test (glyphs ++ g ∷ []) ≡ true
-all_snoc test [] g h k = both (test g) true k refl
-all_snoc test (x ∷ glyphs) g h k = let p = both_parts (test x) (list_all test glyphs) h in both (test x) (list_all test (glyphs ++ g ∷ [])) p.0 (all_snoc test glyphs g p.1 k)
+all_snoc test [] g h k = and_from (test g) true k refl
+all_snoc test (x ∷ glyphs) g h k = let p = both_parts (test x) (list_all test glyphs) h in and_from (test x) (list_all test (glyphs ++ g ∷ [])) p.0 (all_snoc test glyphs g p.1 k)
 
 -- ---- what a state stands for
 
@@ -241,16 +238,12 @@ other_way b c h = nat_eq_equiv.symm c b ∙ h
 is_slash : (b : ℕ) → is_plain_glyph (bare b) ≡ false → is_blank b ≡ false → is_feed b ≡ false → (b == 59) ≡ false → (b == 40) ≡ false → (b == 41) ≡ false → (b == 34) ≡ false → b ≡ 92
 is_slash b h e0 e1 e2 e3 e4 e5 = by (92 == b) refl
   where
-    not_false : (t : Bool) → not t ≡ false → t ≡ true
-    not_false true h = refl
-    not_false false h = absurd (true≢false h)
-
     by : (t : Bool) → (92 == b) ≡ t → b ≡ 92
     by true is = sym (eqb-true 92 b is)
     by false is =
         let none : ends_plain b ≡ false = or_false (is_blank b || is_feed b) _ (or_false (is_blank b) (is_feed b) e0 e1)
         (or_false (34 == b) _ (other_way b 34 e5) (or_false (40 == b) _ (other_way b 40 e3) (or_false (41 == b) _ (other_way b 41 e4) (or_false (59 == b) _ (other_way b 59 e2) (or_false (92 == b) false is refl))))) in
-        absurd (true≢false (sym (not_false (ends_plain b) h) ∙ none))
+        absurd (true≢false (sym (not-false (ends_plain b) h) ∙ none))
 
 mark_means : (free : Bool) (front : List ℕ) (items : List Item) (d : ℕ) (tokens : List Token) (b : ℕ) → AreBefore free items d tokens → front ≡ items_text items → is_plain_glyph (bare b) ≡ false
     → (b ≡ 92 → Means front b (Goes d tokens (InToken false [] Slash))) → Means front b (at_mark d tokens b)
@@ -284,7 +277,7 @@ mark_means free front items d tokens b a is mark last =
 outside_means : (front : List ℕ) (d : ℕ) (tokens : List Token) (b : ℕ) → Stands front d tokens Outside → Means front b (step d tokens Outside b)
 outside_means front d tokens b s =
     choose front b (is_plain_glyph (bare b)) _ _
-    (λ t. (s.0, bare b ∷ [], s.1, both (is_plain_glyph (bare b)) true t refl, refl, refl, ap (λ (x : List ℕ). x ++ b ∷ []) s.2))
+    (λ t. (s.0, bare b ∷ [], s.1, and_from (is_plain_glyph (bare b)) true t refl, refl, refl, ap (λ (x : List ℕ). x ++ b ∷ []) s.2))
     (λ mark. mark_means true front s.0 d tokens b s.1 s.2 mark
     (λ e. (s.0, [], s.1, refl, refl, tt, ap₂ (λ (x y : List ℕ). x ++ y) s.2 (byte b 92 e))))
 
@@ -384,7 +377,7 @@ plain_means front d tokens units b s =
     (λ mark. choose front b (b == 92) _ _
     (λ t. (s.0, s.1, s.2, s.3, s.4, tt, extend front (items_text s.0) [] (glyphs_text s.1) [] b s.6 ∙ ap (λ (t : List ℕ). items_text s.0 ++ (glyphs_text s.1 ++ t)) (byte b 92 (eqb-true b 92 t))))
     (λ f. mark_means false front (s.0 ++ plain s.1 ∷ []) d (with_token tokens false units) b
-    (plain_ended s.0 s.1 d tokens units s.2 (both (nat_lt 0 (length s.1)) (list_all is_plain_glyph s.1) s.5 s.3) s.4)
+    (plain_ended s.0 s.1 d tokens units s.2 (and_from (nat_lt 0 (length s.1)) (list_all is_plain_glyph s.1) s.5 s.3) s.4)
     (s.6 ∙ ap (λ (t : List ℕ). items_text s.0 ++ t) (append-nil (glyphs_text s.1)) ∙ sym (text_snoc s.0 (plain s.1))) mark
     (λ e. absurd (true≢false (subst (λ (x : ℕ). (x == 92) ≡ false) e f)))))
 
@@ -437,15 +430,6 @@ quoted_means front d tokens units b s =
 
 -- ---- escapes
 
-digit_bounds : (x : ℕ) → is_ascii_digit x ≡ true → (48 ≤ x) × (x ≤ 57)
-digit_bounds x h = let p = both_parts (nat_le 48 x) (nat_le x 57) h in (leb-true 48 x p.0, leb-true x 57 p.1)
-
-pub is_digit : (x : ℕ) → x < 10 → is_ascii_digit (48 + x) ≡ true
-is_digit x h = both (nat_le 48 (48 + x)) (nat_le (48 + x) 57) (le-leb 48 (48 + x) (omega arith)) (le-leb (48 + x) 57 (omega (arith, h)))
-
-no_mark : (b : ℕ) → is_ascii_digit b ≡ true → is_escape (marked b) ≡ false
-no_mark b h = ap (λ t. not t && not (is_feed b) && not (b == 13)) h
-
 second : List ℕ → ℕ
 second (x ∷ y ∷ rest) = y
 second _ = 0
@@ -490,7 +474,7 @@ none_third x y b after dx dy g (numbered n) rest t e =
     let small : n < 256 = ltb-true n 256 t in
     let same : value_of x y b ≡ n = omega (arith, ex, ey, eb, small) in
     let db : is_ascii_digit b ≡ true = ap is_ascii_digit eb ∙ is_digit (n % 10) (omega arith) in
-    true≢false (sym (both (is_ascii_digit b) (is_escape (numbered (value_of x y b))) db (ap (λ (k : ℕ). is_escape (numbered k)) same ∙ t)) ∙ g)
+    true≢false (sym (and_from (is_ascii_digit b) (is_escape (numbered (value_of x y b))) db (ap (λ (k : ℕ). is_escape (numbered k)) same ∙ t)) ∙ g)
 
 -- where the `\` of an open escape stands
 at_escape : (which : Bool) (items : List Item) (glyphs : List Glyph) (d : ℕ) (tokens : List Token) → AreBefore (not which) items d tokens → list_all (may_stand which) glyphs ≡ true
@@ -501,7 +485,7 @@ at_escape false items (g ∷ glyphs) d tokens a each = inl (
   d,
   record {
     items = items ++ plain (g ∷ glyphs) ∷ [];
-    in_place = depth_snoc 0 items d (plain (g ∷ glyphs)) d a.depth (both (nat_lt 0 (length (g ∷ glyphs))) (list_all is_plain_glyph (g ∷ glyphs)) (lt-ltb 0 (length (g ∷ glyphs)) (omega arith)) each) (a.fit (plain (g ∷ glyphs)) refl) refl;
+    in_place = depth_snoc 0 items d (plain (g ∷ glyphs)) d a.depth (and_from (nat_lt 0 (length (g ∷ glyphs))) (list_all is_plain_glyph (g ∷ glyphs)) (lt-ltb 0 (length (g ∷ glyphs)) (omega arith)) each) (a.fit (plain (g ∷ glyphs)) refl) refl;
     no_comment = comment_snoc items (plain (g ∷ glyphs));
     spelled = sym (text_snoc items (plain (g ∷ glyphs)));
   },
@@ -601,9 +585,9 @@ one_means which front d tokens units x b s = subst (Means front b) (sym (same wh
 
 value_digits : (x y b : ℕ) → is_ascii_digit x ≡ true → is_ascii_digit y ≡ true → is_ascii_digit b ≡ true → value_of x y b < 256 → 92 ∷ x ∷ y ∷ b ∷ [] ≡ glyph_text (numbered (value_of x y b))
 value_digits x y b dx dy db small =
-    let hx = digit_bounds x dx in
-    let hy = digit_bounds y dy in
-    let hb = digit_bounds b db in
+    let hx = digit_is x dx in
+    let hy = digit_is y dy in
+    let hb = digit_is b db in
     let n = value_of x y b in
     let ex : x ≡ 48 + n / 100 = omega (arith, hx.0, hx.1, hy.0, hy.1, hb.0, hb.1) in
     let ey : y ≡ 48 + n / 10 % 10 = omega (arith, hx.0, hx.1, hy.0, hy.1, hb.0, hb.1) in
@@ -686,7 +670,7 @@ end_found front d tokens InComment s =
     items_end front (s.0 ++ comment s.1 ∷ []) d tokens (depth_snoc 0 s.0 d (comment s.1) d s.2.depth s.3 (s.2.fit (comment s.1) refl) refl)
     (s.2.all ∙ sym (append-nil (tokens_of s.0)) ∙ sym (tokens_snoc s.0 (comment s.1))) (s.4 ∙ sym (text_snoc s.0 (comment s.1)))
 end_found front d tokens (InToken false units Unescaped) s =
-    let a = plain_ended s.0 s.1 d tokens units s.2 (both (nat_lt 0 (length s.1)) (list_all is_plain_glyph s.1) s.5 s.3) s.4 in
+    let a = plain_ended s.0 s.1 d tokens units s.2 (and_from (nat_lt 0 (length s.1)) (list_all is_plain_glyph s.1) s.5 s.3) s.4 in
     items_end front (s.0 ++ plain s.1 ∷ []) d (with_token tokens false units) a.depth a.all
     (s.6 ∙ ap (λ (t : List ℕ). items_text s.0 ++ t) (append-nil (glyphs_text s.1)) ∙ sym (text_snoc s.0 (plain s.1)))
 end_found front d tokens (InToken true units Unescaped) s =

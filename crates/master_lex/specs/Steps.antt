@@ -14,18 +14,21 @@ use Rattle.master_lex.specs.declared.entry.Entry.{Entry}
 use Rattle.master_lex.specs.Entries.{has_token}
 use Rattle.master_lex.specs.Items.{bare, marked, numbered, octet_of, is_escape, is_plain_glyph, is_quoted_glyph, is_blank, is_feed}
 
+-- project's own form: the tokens with one more of these octets
 abbrev pub with_token : List Token → Bool → List Octet → List Token
 with_token tokens quoted units = tokens ++ record { units = units; quoted = quoted } ∷ []
 
+-- project's own form: a line feed closes the entry at depth 0, and is within it at another depth
 abbrev pub at_feed : ℕ → List Token → Step
 at_feed zero tokens = Closes tokens
 at_feed (suc d) tokens = Goes (suc d) tokens Outside
 
+-- project's own form: a `)` closes a parenthesis, and is a fault at depth 0
 abbrev pub at_closing : ℕ → List Token → Step
 at_closing zero tokens = Fails StrayParen
 at_closing (suc d) tokens = Goes d tokens Outside
 
--- a byte that is no plain one
+-- project's own form: a byte that is no plain one
 abbrev pub at_mark : ℕ → List Token → ℕ → Step
 at_mark d tokens b =
     if is_blank b then Goes d tokens Outside
@@ -36,9 +39,11 @@ at_mark d tokens b =
     else (if b == 34 then Goes d tokens (InToken true [] Unescaped)
     else Goes d tokens (InToken false [] Slash))))))
 
+-- RFC 1035, 5.1: the value of three decimal digits, given as their bytes
 abbrev pub value_of : ℕ → ℕ → ℕ → ℕ
 value_of x y z = 100 * (x - 48) + 10 * (y - 48) + (z - 48)
 
+-- project's own form: what a byte does at this depth, behind these tokens, in this part of the entry
 abbrev pub step : ℕ → List Token → Part → ℕ → Step
 step d tokens Outside b =
     if is_plain_glyph (bare b) then Goes d tokens (InToken false (octet_of (bare b) ∷ []) Unescaped) else at_mark d tokens b
@@ -61,21 +66,22 @@ step d tokens (InToken quoted units (TwoDigits x y)) b =
 
 -- ---- numbers of lines, and entries with a token
 
--- the number of the line behind a byte, which stops at the last of its type
+-- project's own form: the number of the line behind a byte, which stops at the last of its type
 abbrev pub line_behind : ℕ → ℕ → ℕ
 line_behind line b = if is_feed b then min (line + 1) (2 ^ 64 - 1) else line
 
--- an entry that has a token is given
+-- project's own form: an entry that has a token is given
 abbrev pub given_of : Entry → Option Entry
 given_of entry = if has_token entry then Some entry else None
 
 -- ---- the end of the file
 
+-- project's own form: the end of the file at depth 0 ends the entry, and is a fault at another depth
 abbrev pub closed_at : ℕ → List Token → Result (List Token) LexKind
 closed_at zero tokens = Ok tokens
 closed_at (suc d) tokens = Err OpenParen
 
--- the tokens of the open entry, or its fault
+-- project's own form: the tokens of the open entry, or its fault
 abbrev pub end_of : ℕ → List Token → Part → Result (List Token) LexKind
 end_of d tokens Outside = closed_at d tokens
 end_of d tokens InComment = closed_at d tokens

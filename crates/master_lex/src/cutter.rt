@@ -34,7 +34,7 @@ impl Model for Cutter {
 fn entry_of(line: u64, blank: bool, tokens: Tokens) -> Option<Entry>
     ensures { result ≡ given_of (record { line = line; blank = blank; tokens = tokens }) }
 {
-    if tokens.len() == 0 {
+    if tokens.is_empty() {
         return None;
     }
     Some(Entry {

@@ -1,5 +1,5 @@
 //! What a byte does to an open entry.
-ghost use Rattle.std.specs.Prelude.{◌≡◌, ℕ, ◌+◌, ◌<◌, ◌^◌, Bool, true, false, [], ◌∷◌, ◌++◌, IfOk, ◌-◌, MatchOption};
+ghost use Rattle.std.specs.Prelude.{◌≡◌, ◌+◌, ◌<◌, ◌^◌, true, false, [], ◌∷◌, ◌++◌, IfOk, ◌-◌, MatchOption};
 ghost use Rattle.master_lex.specs.Items as items;
 ghost use Rattle.master_lex.specs.Steps as steps;
 

@@ -1,6 +1,6 @@
 //! Files with their entries and faults, whole and in pieces.
 
-use crate::{Cutter, Entry, LexFault, LexKind, Lexer};
+use crate::{Cutter, Entry, LexFault, LexKind, Lexer, laws};
 use std::alloc::{AllocError, Global};
 
 /// The entries of a file as text: a line for each entry, with its number, `+` for a blank-led one, and each token behind
@@ -107,4 +107,15 @@ fn the_end_closes(rt: HostRuntime) -> Result<(), LexFault> {
     assert!(rt; entry.is_some());
     assert!(rt; cutter.finish()?.is_none());
     Ok(())
+}
+
+#[test]
+fn every_law() {
+    laws::one_reading();
+    laws::never_both();
+    laws::one_fault();
+    laws::entry_or_fault();
+    laws::one_next();
+    laws::next_alone();
+    laws::broken_alone();
 }

@@ -14,8 +14,8 @@ use Rattle.master_lex.specs.Pieces as lex
 use Rattle.master_lex.proofs.Machine.{closed, alive, run}
 use Rattle.master_lex.proofs.Readings.{still, good_still, items_run, ends_at_feed}
 use Rattle.master_lex.proofs.Order.{compared, spelled_some, entries_left, entries_more}
-use Rattle.master_lex.proofs.Reach.{reach_alive, spelled_run, broken_more}
-use Rattle.master_lex.proofs.Pieces.{decided_some, none_decided}
+use Rattle.master_lex.proofs.Reach.{reach_alive, broken_more}
+use Rattle.master_lex.proofs.Pieces.{alive_not_spelled, decided_some, none_decided}
 use Rattle.master_reader.specs.declared.fault.Kind.{Kind}
 use Rattle.master_reader.specs.declared.fault.ZoneFault.{ZoneFault}
 use Rattle.master_reader.specs.declared.fault.ZoneFault.TheVariants.{Bad, Memory}
@@ -50,13 +50,6 @@ open_not_spelled rest text after entry live is spells = by (spells (0 ∷ []))
             in
             let both : alive ≡ closed (tokens_of s.items) after = sym live ∙ ap (run still 0 [] Outside) is ∙ runs in
             cc
-
-alive_not_spelled : (rest text after : List ℕ) (entry : Entry) → run still 0 [] Outside rest ≡ alive → rest ≡ text ++ after → Spells text after entry → after ≢ [] → ⊥
-alive_not_spelled rest text after entry a is s some = by (spelled_run text after entry s)
-  where
-    by : ((run still 0 [] Outside (text ++ after) ≡ closed entry.tokens after) ⊎ ((run still 0 [] Outside (text ++ after) ≡ alive) × (after ≡ []))) → ⊥
-    by (inl c) = let both : alive ≡ closed entry.tokens after = sym a ∙ ap (run still 0 [] Outside) is ∙ c in cc
-    by (inr c) = some c.1
 
 -- what stands for bytes has decided no fault in them
 pub stands_not_decided : (zone : List (List ℕ)) (kept : Kept) (bytes : List ℕ) (line : ℕ) (kind : Kind) → StandsFor zone kept bytes → DecidesFault zone bytes line kind → ⊥

@@ -1,7 +1,7 @@
 -- The groups of a TTL, one by one.
-use Rattle.std.proofs.Common.{◌≡◌, ℕ, suc, zero, ◌+◌, ◌-◌, ◌*◌, ◌<◌, ◌≤◌, ◌^◌, min, Bool, true, false, cond, not, ◌&&◌, ◌||◌, List, [], ◌∷◌, ◌++◌, length, take, drop, get_or, refl, sym, ap, ap₂, ◌∙◌, arith, nat_lt, Some, None, take-append-drop, add-zero, zero-add, length-drop, ltb-true, lt-ltb, add_assoc}
+use Rattle.std.proofs.Common.{◌≡◌, ℕ, suc, zero, ◌+◌, ◌-◌, ◌*◌, ◌<◌, ◌≤◌, ◌^◌, min, Bool, true, false, cond, not, ◌&&◌, ◌||◌, List, [], ◌∷◌, ◌++◌, length, take, drop, get_or, refl, sym, ap, ap₂, ◌∙◌, arith, nat_lt, Some, None, take-append-drop, add-zero, zero-add, length-drop, ltb-true, add_assoc}
 use Rattle.std.specs.Prelude.{sum_by, nat_le}
-use Rattle.std.specs.List.{list_any, list_all, position, position_or_len, prefix_len}
+use Rattle.std.specs.List.{list_any, list_all, onto_first, position, position_or_len, prefix_len}
 use Rattle.std.specs.Str.Parse.{digits_value}
 use Rattle.std.proofs.Math.Seq.{take_all}
 use Rattle.std.proofs.lemmas.Bool.{ltb-false, le-leb, leb-true, false_from_ne_true}
@@ -15,7 +15,7 @@ use Rattle.dns_name.specs.Parts.{without_final}
 use Rattle.dns_name.proofs.Splits.{without_final_yes}
 use Rattle.master_lex.specs.declared.entry.Octet.{Octet}
 use Rattle.master_reader.specs.Tokens.{bytes_in, are_digits}
-use Rattle.master_reader.specs.Ttl.{seconds_in, is_unit, onto_first, groups_in, unit_of, is_group, seconds_of, are_groups}
+use Rattle.master_reader.specs.Ttl.{seconds_in, is_unit, groups_in, unit_of, is_group, seconds_of, are_groups}
 use Rattle.master_reader.proofs.Spelling.{no_octet, length-bytes_in}
 
 -- a group is cut behind the first unit letter
@@ -193,13 +193,3 @@ few s n e = by (nat_lt s (2 ^ 32)) refl
     by : (t : Bool) → nat_lt s (2 ^ 32) ≡ t → t ≡ nat_le n 4294967295
     by true is = sym (le-leb n 4294967295 (omega (arith, e, ltb-true s (2 ^ 32) is)))
     by false is = sym (false_from_ne_true (nat_le n 4294967295) (λ h. omega (arith, e, ltb-false s (2 ^ 32) is, leb-true n 4294967295 h)))
-
--- the sum of all, where there is a group
-pub summed_last : (units rest : List Octet) (seconds : ℕ) → Summed units rest seconds → length rest ≡ 0 → 0 < length units → nat_lt seconds (2 ^ 32) ≡ are_groups (bytes_in units)
-summed_last units [] seconds s none some =
-    same (nat_lt seconds (2 ^ 32)) (nat_le (sum_by seconds_of (groups_in (bytes_in units))) 4294967295) (few seconds (sum_by seconds_of (groups_in (bytes_in units))) (omega (arith, s.held, s.sum)))
-    ∙ sym (ap₂ (λ a b. (a && b) && nat_le (sum_by seconds_of (groups_in (bytes_in units))) 4294967295) (lt-ltb 0 (length (bytes_in units)) (omega (arith, length-bytes_in units))) s.groups)
-  where
-    same : (a b : Bool) → a ≡ b → a ≡ ((true && true) && b)
-    same a b e = e
-summed_last units (o ∷ rest) seconds s none some = absurd (omega arith)

@@ -1,12 +1,12 @@
 -- Names of the labels of a token.
-use Rattle.std.proofs.Common.{subst, ◌≡◌, ◌≢◌, ℕ, ◌<◌, ◌≤◌, Bool, true, false, cond, Ok, Err, List, [], ◌∷◌, ◌++◌, length, map, Option, Some, None, Result, refl, sym, ap, ap₂, ◌∙◌, arith, append_assoc, length-append, nat_lt, le-ltb, ltb-true, lt-ltb, ne_eqb}
+use Rattle.std.proofs.Common.{subst, ◌≡◌, ◌≢◌, ℕ, ◌<◌, Bool, true, false, cond, Ok, Err, List, [], ◌∷◌, ◌++◌, length, map, Option, Some, None, Result, refl, sym, ap, ap₂, ◌∙◌, arith, append_assoc, length-append, nat_lt, le-ltb, ltb-true, lt-ltb, ne_eqb}
 use Rattle.std.proofs.lemmas.List.{length-map, map-append}
 use Rattle.dns_name.specs.declared.fault.NameFault.{NameFault}
 use Rattle.dns_name.specs.declared.fault.NameFault.TheVariants.{EmptyLabel, LabelLong, NameLong}
 use Rattle.dns_name.specs.Wire.{wire_form}
 use Rattle.dns_name.specs.Name.{IsLabel, IsName, lowercase_label, label_fault, child_of, fault_or, first_fault, earlier_fault, name_of_labels}
 use Rattle.dns_name.specs.Parts.{ends_so}
-use Rattle.dns_name.proofs.Names.{back_name, no_fault_from_label}
+use Rattle.dns_name.proofs.Names.{back_name, length-back, no_fault_from_label}
 use Rattle.std.specs.List.{AllByRecursion}
 use Rattle.master_reader.specs.declared.fault.Kind.TheVariants.{BadName}
 use Rattle.master_reader.specs.Tokens.{or_bad_name}
@@ -40,10 +40,6 @@ length-lower [] base = refl
 length-lower (label ∷ labels) base =
     let same : length (lowercase_label label) ≡ length label = simp length-map in
     omega (arith, same, length-lower labels base, length-append label (wire_form (labels ++ base)), length-append (lowercase_label label) (wire_form (map lowercase_label labels ++ base)))
-
-length-back : (front labels : List (List ℕ)) → length (wire_form labels) ≤ length (wire_form (front ++ labels))
-length-back [] labels = omega arith
-length-back (label ∷ front) labels = omega (arith, length-back front labels, length-append label (wire_form (front ++ labels)))
 
 -- a label that is none, or that makes the name too long
 pub label_is_bad : (labels front : List (List ℕ)) (label : List ℕ) (behind base name : List (List ℕ)) (fault : NameFault) → labels ≡ front ++ label ∷ behind → name ≡ map lowercase_label behind ++ base → Err fault ≡ child_of label name

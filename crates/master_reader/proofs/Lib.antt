@@ -7,4 +7,3 @@ pub mod Asked
 pub mod Once
 pub mod Taking
 pub mod Feeding
-pub mod Examples

@@ -16,6 +16,7 @@ use Rattle.master_reader.specs.declared.fault.Kind.TheVariants.{BadName}
 abbrev pub bytes_in : List Octet → List ℕ
 bytes_in units = map (λ (o : Octet). o.byte) units
 
+-- project's own form: the bytes of a token's octets, escaped or not
 abbrev pub bytes_of : Token → List ℕ
 bytes_of token = bytes_in token.units
 

@@ -1,6 +1,6 @@
 -- The forms of a TTL.
 use Rattle.std.specs.Prelude.{ℕ, ◌*◌, Bool, ◌&&◌, ◌||◌, List, [], ◌∷◌, length, sum_by, nat_lt, nat_le, ◌==◌, if◌then◌else◌}
-use Rattle.std.specs.List.{list_all}
+use Rattle.std.specs.List.{list_all, onto_first}
 use Rattle.std.specs.Char.{to_ascii_lowercase}
 use Rattle.std.specs.Str.Parse.{digits_value}
 use Rattle.dns_name.specs.Parts.{without_final}
@@ -17,13 +17,9 @@ seconds_in letter =
     else (if l == 115 then 1
     else 0))))
 
+-- project's own choice: the letters that stand for some seconds
 abbrev pub is_unit : ℕ → Bool
 is_unit b = nat_lt 0 (seconds_in b)
-
--- the byte in front of the first group
-abbrev pub onto_first : ℕ → List (List ℕ) → List (List ℕ)
-onto_first b [] = (b ∷ []) ∷ []
-onto_first b (group ∷ groups) = (b ∷ group) ∷ groups
 
 -- cut behind each unit letter
 abbrev pub groups_in : List ℕ → List (List ℕ)
@@ -40,6 +36,7 @@ unit_of (b ∷ c ∷ bytes) = unit_of (c ∷ bytes)
 abbrev pub is_group : List ℕ → Bool
 is_group group = nat_lt 0 (unit_of group) && are_digits (without_final is_unit group)
 
+-- project's own choice: the seconds of a group: its digits times its unit
 abbrev pub seconds_of : List ℕ → ℕ
 seconds_of group = digits_value 10 (without_final is_unit group) * unit_of group
 

@@ -1,12 +1,12 @@
 //! The bodies of records.
-ghost use Rattle.std.specs.Prelude.{◌≡◌, None, Some, Ok, Err, IfOk, false, true, map, MatchResult, MatchOption, codes};
+ghost use Rattle.std.specs.Prelude.{◌≡◌, None, Some, Ok, Err, IfOk, false, true, map, MatchResult, MatchOption};
 ghost use Rattle.std.specs.Str.Parse.{digits_value};
 ghost use Rattle.addr_bits.specs.Ip4.{SpellsIp4};
 ghost use Rattle.addr_bits.specs.Ip6.{SpellsIp6};
 ghost use Rattle.master_reader.specs.declared.record.Body.TheVariants as bodies;
 ghost use Rattle.master_reader.specs.Tokens as tokens;
 ghost use Rattle.master_reader.specs.Entry as entries;
-ghost use Rattle.master_reader.specs.Data.{only_bare, IsAddressBody, IsBody, is_preference, is_long_text, name_body, mx_body, txt_body, other_body};
+ghost use Rattle.master_reader.specs.Data.{only_bare, IsAddressBody, IsBody, is_preference, is_long_text, mx_body, txt_body, other_body};
 ghost use Rattle.master_reader.specs.Refusals.{RefusalIs};
 
 use crate::fault::{Kind, Refusal};
@@ -19,10 +19,10 @@ use master_lex::Token;
 use std::alloc::{AllocError, Global};
 
 /// The most octets of a string (RFC 1035, section 3.3).
-const MAX_STRING: usize = 255;
+pub const MAX_STRING: usize = 255;
 
 /// The most octets of the strings of a TXT record, each with a length octet (RFC 1035, section 3.2.1).
-const MAX_TEXT: usize = 65_535;
+pub const MAX_TEXT: usize = 65_535;
 
 /// The token, where there is one alone.
 pub(crate) fn only_token(tokens: &[Token]) -> Result<&Token, Kind>

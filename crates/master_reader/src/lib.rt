@@ -12,6 +12,7 @@ mod record;
 mod ttl;
 mod words;
 
+pub use data::{MAX_STRING, MAX_TEXT};
 pub use fault::{Kind, ZoneFault};
 pub use reader::{Reader, read_zone};
 pub use record::{Body, Record, Records, Text};

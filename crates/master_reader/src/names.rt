@@ -8,11 +8,8 @@ ghost use Rattle.master_reader.specs.Tokens as tokens;
 use crate::fault::Kind;
 use crate::words::{is_one_unescaped, is_unescaped};
 use arrayvec::ArrayVec;
-use dns_name::Name;
+use dns_name::{MAX_LABEL, Name};
 use master_lex::{Octet, Token};
-
-/// The most octets of a label (RFC 1035, section 2.3.4).
-const MAX_LABEL: usize = 63;
 
 /// The bytes of a label, unless they are too many.
 fn label_of(units: &[Octet]) -> Option<ArrayVec<u8, 63>>

@@ -1,5 +1,5 @@
 //! What the entries so far came to.
-ghost use Rattle.std.specs.Prelude.{◌≡◌, ◌++◌, IfOk, IfErr, OnOk};
+ghost use Rattle.std.specs.Prelude.{◌≡◌, ◌++◌, IfErr, OnOk};
 ghost use Rattle.master_reader.specs.Reading.{IsFaulty, records_kept};
 ghost use Rattle.master_reader.specs.Refusals.{RefusalIs};
 ghost use Rattle.master_reader.specs.Progress.{context_of, Takes, FaultAt};

@@ -1,5 +1,5 @@
 //! Records out of the pieces of a file.
-ghost use Rattle.std.specs.Prelude.{◌≡◌, ℕ, ◌+◌, ◌<◌, ◌^◌, List, [], ◌++◌, length, IfOk, IfErr, OnOk};
+ghost use Rattle.std.specs.Prelude.{ℕ, ◌+◌, ◌<◌, ◌^◌, List, [], ◌++◌, length, IfOk, IfErr, OnOk};
 ghost use Rattle.master_reader.specs.declared.fault.Kind.{Kind};
 ghost use Rattle.master_reader.specs.Reading.{Reads, Faults};
 ghost use Rattle.master_reader.specs.Readers.{StandsFor, DecidesFault, FaultIs};
@@ -92,7 +92,6 @@ impl Reader {
 /// The records of a master file at or below the origin, in the file's order (RFC 1035, section 5). `Bad` comes exactly
 /// where the file has no reading, and names the first broken or faulty entry by the line on which it begins and its kind.
 pub fn read_zone(alloc: Global, origin: &Name, bytes: &[u8]) -> Result<Records, ZoneFault>
-    requires few { length bytes.now < 2 ^ 63 }
     ensures reads { IfOk result (Reads origin.now bytes.now) }
     ensures bad { IfErr result (FaultIs (Faults origin.now bytes.now)) }
     ensures not_bad { OnOk result ((line : ℕ) (kind : Kind) → ¬ Faults origin.now bytes.now line kind) }

@@ -1,5 +1,5 @@
 //! Files with their records and faults, whole and in pieces.
-ghost use Rattle.std.specs.Prelude.{◌<◌, ◌^◌, length};
+ghost use Rattle.std.specs.Prelude.{◌<◌};
 
 use crate::{Body, Kind, Reader, Records, ZoneFault, laws, read_zone};
 use dns_name::Name;
@@ -60,9 +60,12 @@ fn shown(alloc: Global, records: &Records) -> Result<String, AllocError> {
 }
 
 /// Asserts that a file has these records, whole and in pieces.
-fn assert_reads(rt: &impl Abort, alloc: Global, bytes: &[u8], want: &str) -> Result<(), AllocError>
-    requires { length bytes.now < 2 ^ 63 }
-{
+fn assert_reads(
+    rt: &impl Abort,
+    alloc: Global,
+    bytes: &[u8],
+    want: &str,
+) -> Result<(), AllocError> {
     let records = read_zone(alloc, &zone(rt), bytes).expect(rt, want);
     assert_eq!(rt; shown(alloc, &records)?.as_str(), want);
     for most in PIECES {
@@ -73,9 +76,7 @@ fn assert_reads(rt: &impl Abort, alloc: Global, bytes: &[u8], want: &str) -> Res
 }
 
 /// Asserts that a file has this first fault, whole and in pieces.
-fn assert_fails(rt: &impl Abort, alloc: Global, bytes: &[u8], line: u64, kind: Kind)
-    requires { length bytes.now < 2 ^ 63 }
-{
+fn assert_fails(rt: &impl Abort, alloc: Global, bytes: &[u8], line: u64, kind: Kind) {
     let bad = Some(ZoneFault::Bad { line, kind });
     assert_eq!(rt; read_zone(alloc, &zone(rt), bytes).err(), bad);
     for most in PIECES {
@@ -181,6 +182,15 @@ fn entries_have_a_meaning(rt: HostRuntime) -> Result<(), AllocError> {
             "b.a.example.com MX 7\n",
         ),
         ("1h CNAME b\n; c\n(\n)\nX. X", "1h.example.com CNAME\n"),
+        (
+            "\\@ TXT \"\"\na\\.b TXT x\n",
+            "\\064.example.com TXT \na\\046b.example.com TXT x\n",
+        ),
+        (
+            "$ORIGIN net.\na IN 1H2m MX 007 b\n TXT x\n$ORIGIN Example.COM.\nw\tCNAME\t.\r\n",
+            "w.example.com CNAME\n",
+        ),
+        (";a \"( \\\n \t\r", ""),
     ] {
         assert_reads(&rt, rt.alloc(), bytes.as_bytes(), want)?;
     }
@@ -193,6 +203,8 @@ fn the_first_fault_decides(rt: HostRuntime) {
         ("a.net. A 1\nb CH A x", 1, Kind::BadData),
         ("a A 1.2.3.4\n\nb 5 5 CH", 3, Kind::BadTtl),
         ("a IN IN A x", 1, Kind::Class),
+        ("a IN 5 IN A 1.2.3.4", 1, Kind::Class),
+        ("\"\" A 1.2.3.4", 1, Kind::BadName),
         ("a class001 A x", 1, Kind::Class),
         ("a MX 65536 ..", 1, Kind::BadData),
         ("a A \\# 4 01020304", 1, Kind::TypeNumber),

@@ -1,5 +1,6 @@
 -- Aliases beside other records.
-use Rattle.std.proofs.Common.{◌≡◌, ◌≢◌, ℕ, ◌+◌, ◌<◌, ◌≤◌, Bool, true, false, cond, not, ◌||◌, List, [], ◌∷◌, length, take, drop, get_or, filter_map, Option, None, Some, IsSome, IfSome, refl, sym, ap, ap₂, subst, ◌∙◌, true≢false, arith, inl, inr, ◌⊎◌, map, filter, MatchOption, All, Contains, is_some, if◌then◌else◌}
+use Rattle.std.proofs.Common.{◌≡◌, ◌≢◌, ℕ, ◌+◌, ◌<◌, ◌≤◌, Bool, true, false, cond, ◌||◌, List, [], ◌∷◌, length, take, drop, get_or, filter_map, Option, None, Some, IsSome, IfSome, refl, sym, ap, ap₂, subst, ◌∙◌, true≢false, arith, inl, inr, ◌⊎◌, map, filter, MatchOption, All, Contains, is_some, if◌then◌else◌}
+use Rattle.std.proofs.lemmas.Bool.{or_right, not-false}
 use Rattle.std.specs.List.{list_any}
 use Rattle.std.specs.Option.{option_to_list}
 use Rattle.std.specs.declared.cmp.Ordering.{Ordering}
@@ -21,9 +22,9 @@ use Rattle.master_reader.specs.declared.record.Record.{Record}
 use Rattle.zone_answers.specs.declared.node.Node.{Node}
 use Rattle.zone_answers.specs.Zone.{Zone}
 use Rattle.zone_answers.specs.Same.{same_name}
-use Rattle.zone_answers.specs.Answers.{bodies_at, target_of}
+use Rattle.zone_answers.specs.Answers.{bodies_at, target_of, has_record}
 use Rattle.zone_answers.specs.Lend.{bodies_clash, has_clash, IsLeastClash, IsLesser}
-use Rattle.zone_answers.specs.Index.{body_at, bodies_in, first_of, places_from, has_record, summary, IsIndex}
+use Rattle.zone_answers.specs.Index.{body_at, bodies_at_places, first_of, places_from, summary, IsIndex}
 use Rattle.zone_answers.proofs.Places.{bodies_by_places, bodies_more, bodies_behind, bodies_all}
 
 -- ---- bodies of one owner
@@ -56,10 +57,6 @@ none_clash all (b ∷ bodies) e =
     let p = not_first b bodies e in
     ap (λ t. t || list_any (λ c. list_any (bodies_clash c) all) bodies) (never (bodies_clash b) all (λ d. quiet b d p.0)) ∙ none_clash all bodies p.1
 
-or_right : (t u : Bool) → u ≡ true → t || u ≡ true
-or_right true u e = refl
-or_right false u e = e
-
 first_passes : (p : Body → Bool) (bodies : List Body) (target : List (List ℕ)) → Some target ≡ first_of (filter_map target_of bodies) → p (Cname target) ≡ true → list_any p bodies ≡ true
 first_passes p [] target e h = absurd cc
 first_passes p ((A n) ∷ bodies) target e h = or_right (p (A n)) (list_any p bodies) (first_passes p bodies target e h)
@@ -78,16 +75,12 @@ false_too : (p q : Body → Bool) (bodies : List Body) → list_any p bodies ≡
 false_too p q [] h f = refl
 false_too p q (b ∷ bodies) h f = false_too-one (p b) (q b) (list_any p bodies) (list_any q bodies) h (f b) (λ k. false_too p q bodies k f)
 
-not_false : (b : Bool) → not b ≡ false → b ≡ true
-not_false true h = refl
-not_false false h = absurd (true≢false h)
-
 calm : (target : List (List ℕ)) (all : List Body) (b : Body) → list_any (bodies_clash (Cname target)) all ≡ false → bodies_clash (Cname target) b ≡ false → list_any (bodies_clash b) all ≡ false
 calm target all (A n) h e = absurd (true≢false e)
 calm target all (Aaaa n) h e = absurd (true≢false e)
 calm target all (Mx p x) h e = absurd (true≢false e)
 calm target all (Txt s) h e = absurd (true≢false e)
-calm target all (Cname x) h e = ap (λ (y : List (List ℕ)). list_any (bodies_clash (Cname y)) all) (sym ((same_name_decides target x).0 (not_false (same_name target x) e))) ∙ h
+calm target all (Cname x) h e = ap (λ (y : List (List ℕ)). list_any (bodies_clash (Cname y)) all) (sym ((same_name_decides target x).0 (not-false (same_name target x) e))) ∙ h
 calm target all (Ns x) h e = absurd (true≢false e)
 calm target all Other h e = never (bodies_clash Other) all (λ d. quiet Other d refl)
 
@@ -108,21 +101,21 @@ clash_found zone name target places i body first is lt e h =
     let p : Body → Bool = bodies_clash (Cname target) in
     sym (sym (first_decides (bodies_at zone name) target first)
     ∙ ap (list_any p) (sym (bodies_by_places zone places name is) ∙ bodies_behind zone.records places (i + 1))
-    ∙ list_any-append p (bodies_in zone.records (take (i + 1) places)) (bodies_in zone.records (drop (i + 1) places))
-    ∙ ap (λ b. b || list_any p (bodies_in zone.records (drop (i + 1) places)))
-    (ap (list_any p) (bodies_more zone.records places i (Some body) lt e) ∙ list_any-append p (bodies_in zone.records (take i places)) (body ∷ [])
-    ∙ or_right (list_any p (bodies_in zone.records (take i places))) (p body || false) (ap (λ b. b || false) h)))
+    ∙ list_any-append p (bodies_at_places zone.records (take (i + 1) places)) (bodies_at_places zone.records (drop (i + 1) places))
+    ∙ ap (λ b. b || list_any p (bodies_at_places zone.records (drop (i + 1) places)))
+    (ap (list_any p) (bodies_more zone.records places i (Some body) lt e) ∙ list_any-append p (bodies_at_places zone.records (take i places)) (body ∷ [])
+    ∙ or_right (list_any p (bodies_at_places zone.records (take i places))) (p body || false) (ap (λ b. b || false) h)))
 
 pub clash_more : (records : List Record) (target : List (List ℕ)) (places : List ℕ) (i : ℕ) (o : Option Body) → i < length places → o ≡ body_at records (get_or places i 0)
     → list_any (bodies_clash (Cname target)) (option_to_list o) ≡ false
-    → list_any (bodies_clash (Cname target)) (bodies_in records (take i places)) ≡ false → list_any (bodies_clash (Cname target)) (bodies_in records (take (i + 1) places)) ≡ false
+    → list_any (bodies_clash (Cname target)) (bodies_at_places records (take i places)) ≡ false → list_any (bodies_clash (Cname target)) (bodies_at_places records (take (i + 1) places)) ≡ false
 clash_more records target places i o lt e none h =
     ap (list_any (bodies_clash (Cname target))) (bodies_more records places i o lt e)
-    ∙ list_any-append (bodies_clash (Cname target)) (bodies_in records (take i places)) (option_to_list o)
+    ∙ list_any-append (bodies_clash (Cname target)) (bodies_at_places records (take i places)) (option_to_list o)
     ∙ ap₂ (λ (a b : Bool). a || b) h none
 
 pub no_clash : (zone : Zone) (name target : List (List ℕ)) (places : List ℕ) (i : ℕ) → Some target ≡ first_of (filter_map target_of (bodies_at zone name)) → places ≡ places_from 0 zone.records name → length places ≤ i
-    → list_any (bodies_clash (Cname target)) (bodies_in zone.records (take i places)) ≡ false → false ≡ has_clash zone name
+    → list_any (bodies_clash (Cname target)) (bodies_at_places zone.records (take i places)) ≡ false → false ≡ has_clash zone name
 no_clash zone name target places i first is le h =
     sym (sym (first_decides (bodies_at zone name) target first)
     ∙ ap (list_any (bodies_clash (Cname target))) (sym (bodies_by_places zone places name is) ∙ sym (bodies_all zone.records places i le)) ∙ h)

@@ -9,8 +9,8 @@ use Rattle.master_reader.specs.declared.record.Record.{Record}
 use Rattle.zone_answers.specs.declared.node.Node.{Node}
 use Rattle.zone_answers.specs.Zone.{Zone}
 use Rattle.zone_answers.specs.Same.{same_name}
-use Rattle.zone_answers.specs.Answers.{is_delegation, is_cut_off, name_exists, closest_above}
-use Rattle.zone_answers.specs.Index.{places_from, has_delegation, has_record, summary, IsIndex}
+use Rattle.zone_answers.specs.Answers.{is_delegation, is_cut_off, name_exists, closest_above, has_record}
+use Rattle.zone_answers.specs.Index.{places_from, has_delegation, summary, IsIndex}
 use Rattle.zone_answers.proofs.Nodes.{at, same_true, same_self, same_not}
 use Rattle.zone_answers.proofs.Indexes.{no_place}
 

@@ -229,7 +229,8 @@ all_cond : {X : Type 0} (P : X → Type 0) (x : X) (xs : List X) (t : Bool) → 
 all_cond P x xs true h rest = (h refl, rest)
 all_cond P x xs false h rest = rest
 
-all_filter : {X : Type 0} (P : X → Type 0) (p : X → Bool) (xs : List X) → AllByRecursion P xs → AllByRecursion P (filter p xs)
+-- what holds of each holds of each that is left
+pub all_filter : {X : Type 0} (P : X → Type 0) (p : X → Bool) (xs : List X) → AllByRecursion P xs → AllByRecursion P (filter p xs)
 all_filter P p [] h = tt
 all_filter P p (x ∷ xs) h = all_cond P x (filter p xs) (p x) (λ _. h.0) (all_filter P p xs h.1)
 

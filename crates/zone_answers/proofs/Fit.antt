@@ -1,5 +1,6 @@
 -- The bodies of an answer are as the records of lent zones are.
 use Rattle.std.proofs.Common.{◌≡◌, ℕ, zero, suc, Bool, true, false, cond, List, [], ◌∷◌, map, filter, filter_map, find, Option, None, Some, refl, sym, subst, ◌∙◌, if◌then◌else◌}
+use Rattle.zone_answers.proofs.Distinct.{all_filter}
 use Rattle.std.specs.List.{AllByRecursion}
 use Rattle.dns_name.specs.Name.{IsUnder}
 use Rattle.master_reader.specs.declared.record.Body.{Body}
@@ -45,27 +46,19 @@ zone_lends zones (label ∷ name) h = either_lends (find (λ z. same_name z.orig
 
 -- ---- the bodies at a node
 
-fit_cond : {X : Type 0} (P : X → Type 0) (x : X) (xs : List X) (t : Bool) → P x → AllByRecursion P xs → AllByRecursion P (cond t (x ∷ xs) xs)
-fit_cond P x xs true h rest = (h, rest)
-fit_cond P x xs false h rest = rest
-
-fit_filter : {X : Type 0} (P : X → Type 0) (p : X → Bool) (xs : List X) → AllByRecursion P xs → AllByRecursion P (filter p xs)
-fit_filter P p [] h = tt
-fit_filter P p (x ∷ xs) h = fit_cond P x (filter p xs) (p x) h.0 (fit_filter P p xs h.1)
-
 fit_bodies : (origin : List (List ℕ)) (records : List Record) → AreLendable origin records → AllByRecursion IsBodyFit (map (λ r. r.body) records)
 fit_bodies origin [] h = tt
 fit_bodies origin (r ∷ records) h = (h.0.1, fit_bodies origin records h.1)
 
 fit_at : (zone : Zone) (name : List (List ℕ)) → AreLendable zone.origin zone.records → AllByRecursion IsBodyFit (bodies_at zone name)
-fit_at zone name h = fit_bodies zone.origin (filter (λ r. same_name r.owner name) zone.records) (fit_filter (λ r. IsUnder r.owner zone.origin × IsBodyFit r.body) (λ r. same_name r.owner name) zone.records h)
+fit_at zone name h = fit_bodies zone.origin (filter (λ r. same_name r.owner name) zone.records) (all_filter (λ r. IsUnder r.owner zone.origin × IsBodyFit r.body) (λ r. same_name r.owner name) zone.records h)
 
 fit_found : (bodies : List Body) → AllByRecursion IsBodyFit bodies → IsFit (answer_of_bodies bodies)
 fit_found [] h = tt
 fit_found (body ∷ bodies) h = h
 
 fit_answer_at : (kind : QKind) (follow : List (List ℕ) → Answer) (bodies : List Body) (targets : List (List (List ℕ))) → ((target : List (List ℕ)) → IsFit (follow target)) → AllByRecursion IsBodyFit bodies → IsFit (answer_at kind follow bodies targets)
-fit_answer_at kind follow bodies [] f h = fit_found (filter (is_of kind) bodies) (fit_filter IsBodyFit (is_of kind) bodies h)
+fit_answer_at kind follow bodies [] f h = fit_found (filter (is_of kind) bodies) (all_filter IsBodyFit (is_of kind) bodies h)
 fit_answer_at kind follow bodies (target ∷ others) f h = f target
 
 fit_node : (kind : QKind) (follow : List (List ℕ) → Answer) (zone : Zone) (node : Option (List (List ℕ))) → ((target : List (List ℕ)) → IsFit (follow target)) → AreLendable zone.origin zone.records → IsFit (at_node kind follow zone node)

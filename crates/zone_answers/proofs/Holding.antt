@@ -10,7 +10,7 @@ use Rattle.zone_answers.specs.declared.answer.Answer.TheVariants.{Loop}
 use Rattle.zone_answers.specs.Zone.{Zone}
 use Rattle.zone_answers.specs.Same.{same_name}
 use Rattle.zone_answers.specs.Answers.{zone_of, or_above, in_zone, answer_within, answer_of, target_of, bodies_at}
-use Rattle.zone_answers.specs.Names.{has_own_alias, is_taken, has_record_under, bodies_in as bodies_held}
+use Rattle.zone_answers.specs.Names.{has_own_alias, is_taken, has_record_under, bodies_in}
 use Rattle.zone_answers.specs.Index.{first_of}
 use Rattle.zone_answers.proofs.Nodes.{same_true}
 
@@ -80,7 +80,7 @@ has_alias ((Ns x) ∷ bodies) = has_alias bodies
 has_alias (Other ∷ bodies) = has_alias bodies
 
 pub own_alias_is : (zones : List Zone) (zone : Zone) (name : List (List ℕ)) (alias : Option (List (List ℕ))) → Some zone ≡ zone_of zones name → alias ≡ first_of (filter_map target_of (bodies_at zone name)) → is_some alias ≡ has_own_alias zones name
-own_alias_is zones zone name alias e h = ap is_some h ∙ has_alias (bodies_at zone name) ∙ ap (λ o. list_any (λ body. is_some (target_of body)) (bodies_held o name)) e
+own_alias_is zones zone name alias e h = ap is_some h ∙ has_alias (bodies_at zone name) ∙ ap (λ o. list_any (λ body. is_some (target_of body)) (bodies_in o name)) e
 
 pub copied_some : {X : Type 0} (o : Option (Bor X)) → is_some o ≡ is_some (option_copied o)
 copied_some None = refl
@@ -88,6 +88,3 @@ copied_some (Some x) = refl
 
 pub taken_is : (zones : List Zone) (name : List (List ℕ)) (held under : Bool) → held ≡ has_record_under (zone_of zones name) name → under ≡ list_any (λ z. is_under z.origin name) zones → held ≡ false → under ≡ is_taken zones name
 taken_is zones name held under h u f = ap₂ (λ (a b : Bool). a || b) (sym f ∙ h) u
-
-pub taken_by_record : (zones : List Zone) (name : List (List ℕ)) (held : Bool) → held ≡ has_record_under (zone_of zones name) name → held ≡ true → true ≡ is_taken zones name
-taken_by_record zones name held h t = ap (λ b. b || list_any (λ z. is_under z.origin name) zones) (sym t ∙ h)

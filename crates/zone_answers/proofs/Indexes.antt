@@ -1,13 +1,14 @@
 -- The index of a zone's records, one record at a time.
 use Rattle.std.proofs.Common.{◌≡◌, ℕ, suc, ◌+◌, Bool, true, false, cond, ◌||◌, ◌&&◌, List, [], ◌∷◌, ◌++◌, length, Option, None, Some, refl, sym, ap, ap₂, ◌∙◌, true≢false, arith, if◌then◌else◌, IsSome}
+use Rattle.std.proofs.lemmas.Bool.{or_right}
 use Rattle.std.specs.List.{list_any}
 use Rattle.dns_name.specs.Name.{is_under}
 use Rattle.dns_name.proofs.Names.{under_itself}
 use Rattle.master_reader.specs.declared.record.Record.{Record}
 use Rattle.zone_answers.specs.declared.node.Node.{Node}
 use Rattle.zone_answers.specs.Same.{same_name}
-use Rattle.zone_answers.specs.Answers.{is_delegation}
-use Rattle.zone_answers.specs.Index.{places_from, has_delegation, has_record, summary, IsIndex, empty_node, filled}
+use Rattle.zone_answers.specs.Answers.{is_delegation, has_record}
+use Rattle.zone_answers.specs.Index.{places_from, has_delegation, summary, IsIndex, empty_node, filled}
 use Rattle.zone_answers.proofs.Nodes.{at, same_true, same_self}
 
 pub or_false : (b : Bool) → b || false ≡ b
@@ -72,10 +73,6 @@ filled_more true false node e = refl
 filled_more false true node e = ap Some (sym (e refl))
 filled_more false false node e = refl
 
-pub or_true : (a b : Bool) → b ≡ true → a || b ≡ true
-or_true true b e = refl
-or_true false b e = e
-
 pub index_more : (records : List Record) (added : Record) (old mid final : List (List (List ℕ) × Node)) (node new : Node)
     → IsIndex records old
     → ((name : List (List ℕ)) → at mid name ≡ filled (is_under added.owner name) (at old name))
@@ -91,7 +88,7 @@ index_more records added old mid final node new index names here is writes = rec
         ∙ ap (λ t. if_there t (summary records name)) (sym (has_record-push records added name))
 
     there : (name : List (List ℕ)) → same_name added.owner name ≡ true → has_record (records ++ added ∷ []) name ≡ true
-    there name e = has_record-push records added name ∙ or_true (has_record records name) (is_under added.owner name) (under_itself added.owner name (same_true added.owner name e))
+    there name e = has_record-push records added name ∙ or_right (has_record records name) (is_under added.owner name) (under_itself added.owner name (same_true added.owner name e))
 
     own : node ≡ summary records added.owner
     own = let e = sym here ∙ in_mid added.owner ∙ ap (λ t. if_there t (summary records added.owner)) (there added.owner (same_self added.owner added.owner refl)) in cc
@@ -120,9 +117,6 @@ index_more records added old mid final node new index names here is writes = rec
             ∙ ap (λ (n : Node). let m : Node = record { places = n.places ++ length records ∷ []; delegates = n.delegates || is_delegation added.body } in m) (own ∙ ap (summary records) o)
             ∙ sym (pushed name true e))
             ∙ ap (λ t. if_there t (summary (records ++ added ∷ []) name)) (sym (there name e))
-
-pub index_none : (nodes : List (List (List ℕ) × Node)) → nodes ≡ [] → IsIndex [] nodes
-index_none nodes e = record { at = λ name. ap (λ n. at n name) e }
 
 -- an owner is there once its names are
 pub owner_there : (owner : List (List ℕ)) (old mid : Option Node) → mid ≡ filled (is_under owner owner) old → mid ≡ None → ⊥

@@ -1,5 +1,6 @@
 -- What lending a zone does.
 use Rattle.std.proofs.Common.{◌≡◌, ℕ, ◌+◌, ◌≤◌, Bool, true, false, cond, ◌||◌, MatchOption, List, [], ◌∷◌, ◌++◌, length, find, is_some, Option, Some, None, refl, sym, ap, ap₂, subst, ◌∙◌, true≢false, arith}
+use Rattle.std.proofs.lemmas.Bool.{or_parts}
 use Rattle.std.proofs.lemmas.List.Sums.{sum_by-append, sum_by-cons}
 use Rattle.std.proofs.lemmas.List.Folds.{list_any-append}
 use Rattle.dns_name.specs.Name.{IsUnder}
@@ -35,14 +36,10 @@ apart_origins a b h = by (same_name b a) refl
     by false e = refl
     by true e = absurd (true≢false (sym ((same_name_decides a b).1 (sym ((same_name_decides b a).0 e))) ∙ h))
 
-split_or : (b c : Bool) → b || c ≡ false → (b ≡ false) × (c ≡ false)
-split_or true c h = absurd (true≢false h)
-split_or false c h = (refl, h)
-
 origins_more : (zones : List Zone) (zone : Zone) → HaveOrigins zones → has_origin zones zone.origin ≡ false → HaveOrigins (zones ++ zone ∷ [])
 origins_more [] zone h f = (refl, tt)
 origins_more (z ∷ zones) zone h f =
-    let p = split_or (same_name z.origin zone.origin) (has_origin zones zone.origin) f in
+    let p = or_parts (same_name z.origin zone.origin) (has_origin zones zone.origin) f in
     (list_any-append (λ y. same_name y.origin z.origin) zones (zone ∷ []) ∙ ap₂ (λ (a b : Bool). a || (b || false)) h.0 (apart_origins z.origin zone.origin p.0), origins_more zones zone h.1 p.1)
 
 pub zones_more : (zones more : List Zone) (zone : Zone) (origin : List (List ℕ)) (records : List Record) → AreZones zones → has_origin zones origin ≡ false → AreLendable origin records

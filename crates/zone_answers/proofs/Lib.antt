@@ -9,5 +9,4 @@ pub mod Clashes
 pub mod Lending
 pub mod Texts
 pub mod Reading
-pub mod Examples
 pub mod Fit

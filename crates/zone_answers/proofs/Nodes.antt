@@ -2,7 +2,7 @@
 use Rattle.std.proofs.Common.{◌≡◌, ℕ, Bool, true, false, cond, List, [], ◌∷◌, Option, None, Some, is_some, refl, sym, ap, ◌∙◌, true≢false}
 use Rattle.std.specs.Map.{lookup}
 use Rattle.dns_name.specs.Name.{is_under, parent_of}
-use Rattle.dns_name.proofs.Names.{same_name_decides, under_itself, root_under, parent_under}
+use Rattle.dns_name.proofs.Names.{same_name_decides, under_itself, parent_under}
 use Rattle.zone_answers.specs.declared.node.Node.{Node}
 use Rattle.zone_answers.specs.Same.{same_name}
 use Rattle.zone_answers.specs.Index.{filled, empty_node}
@@ -60,11 +60,3 @@ filled_above (label ∷ rest) above name o p = ap (λ a. filled (is_under a name
     by : (t : Bool) → same_name (label ∷ rest) name ≡ t → filled (is_under rest name) (filled t o) ≡ filled (is_under (label ∷ rest) name) o
     by true e = twice (is_under rest name) (is_under (label ∷ rest) name) (under_itself (label ∷ rest) name (same_true (label ∷ rest) name e))
     by false e = ap (λ t. filled t o) (sym (parent_under label rest name (same_not (label ∷ rest) name e)))
-
-pub filled_root : (added name : List (List ℕ)) (o : Option Node) → parent_of added ≡ None → filled (same_name added name) o ≡ filled (is_under added name) o
-filled_root (label ∷ rest) name o p = absurd cc
-filled_root [] name o p = ap (λ t. filled t o) (by (same_name [] name) refl)
-  where
-    by : (t : Bool) → same_name [] name ≡ t → t ≡ is_under [] name
-    by true e = sym (under_itself [] name (same_true [] name e))
-    by false e = sym (root_under name (same_not [] name e))

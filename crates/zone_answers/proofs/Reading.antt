@@ -1,8 +1,8 @@
 -- The records of a master file may be lent.
-use Rattle.std.proofs.Common.{◌≡◌, ℕ, ◌+◌, ◌<◌, ◌≤◌, Bool, true, false, ◌||◌, List, [], ◌∷◌, length, map, filter, sum_by, Result, Ok, Err, refl, sym, subst, true≢false, arith, nat_lt, if◌then◌else◌, codes}
+use Rattle.std.proofs.Common.{◌≡◌, ℕ, ◌+◌, ◌<◌, ◌≤◌, Bool, true, false, ◌||◌, List, [], ◌∷◌, length, map, filter, sum_by, Result, Ok, Err, refl, sym, subst, arith, nat_lt, if◌then◌else◌, codes}
 use Rattle.std.specs.Bool.{MatchBool}
 use Rattle.std.specs.List.{list_any, AllByRecursion}
-use Rattle.std.proofs.lemmas.Bool.{ltb-false}
+use Rattle.std.proofs.lemmas.Bool.{ltb-false, or_parts}
 use Rattle.dns_name.specs.Name.{IsUnder, is_under}
 use Rattle.dns_name.proofs.Names.{under_decides}
 use Rattle.dns_name.proofs.Octets.{all_append}
@@ -24,19 +24,15 @@ use Rattle.zone_answers.specs.Lend.{AreLendable, IsBodyFit}
 
 -- ---- the bodies of records
 
-neither : (b c : Bool) → b || c ≡ false → (b ≡ false) × (c ≡ false)
-neither true c h = absurd (true≢false h)
-neither false c h = (refl, h)
-
 all_short : (strings : List (List ℕ)) → list_any (λ s. nat_lt 255 (length s)) strings ≡ false → AllByRecursion (λ s. length s ≤ 255) strings
 all_short [] h = tt
-all_short (s ∷ strings) h = let p = neither (nat_lt 255 (length s)) (list_any (λ x. nat_lt 255 (length x)) strings) h in (ltb-false 255 (length s) p.0, all_short strings p.1)
+all_short (s ∷ strings) h = let p = or_parts (nat_lt 255 (length s)) (list_any (λ x. nat_lt 255 (length x)) strings) h in (ltb-false 255 (length s) p.0, all_short strings p.1)
 
 text_fit : (strings : List (List ℕ)) (t : Bool) (body : Body) → (list_any (λ s. nat_lt 255 (length s)) strings || nat_lt 65535 (sum_by (λ s. length s + 1) strings)) ≡ t → 0 < length strings
     → (let r : Result Body Kind = if t then Err kinds.LongText else Ok (Txt strings) in Ok body ≡ r) → IsBodyFit body
 text_fit strings true body is some e = absurd cc
 text_fit strings false body is some e =
-    let p = neither (list_any (λ s. nat_lt 255 (length s)) strings) (nat_lt 65535 (sum_by (λ s. length s + 1) strings)) is in
+    let p = or_parts (list_any (λ s. nat_lt 255 (length s)) strings) (nat_lt 65535 (sum_by (λ s. length s + 1) strings)) is in
     let same : Txt strings ≡ body = cc in
     subst IsBodyFit same (some, all_short strings p.0, ltb-false 65535 (sum_by (λ s. length s + 1) strings) p.1)
 

@@ -13,7 +13,7 @@ use Rattle.zone_answers.specs.Same.{same_name}
 use Rattle.zone_answers.specs.Answers.{bodies_at}
 use Rattle.zone_answers.specs.Names.{other_len}
 use Rattle.zone_answers.specs.Lend.{AreLendable, IsBodyFit}
-use Rattle.zone_answers.specs.Index.{body_at, bodies_in, places_from}
+use Rattle.zone_answers.specs.Index.{body_at, bodies_at_places, places_from}
 use Rattle.zone_answers.proofs.Places.{bodies_by_places, bodies_more, bodies_all}
 
 abbrev lengths_of : List (List ℕ) → ℕ
@@ -111,17 +111,17 @@ places_few place (r ∷ records) name =
 -- ---- the sum of their lengths
 
 pub octets_some : (records : List Record) (places : List ℕ) (i : ℕ) (body : Body) (octets more : ℕ) → i < length places → Some body ≡ body_at records (get_or places i 0) → more ≡ octets + other_len body
-    → octets ≡ sum_by other_len (bodies_in records (take i places)) → more ≡ sum_by other_len (bodies_in records (take (i + 1) places))
+    → octets ≡ sum_by other_len (bodies_at_places records (take i places)) → more ≡ sum_by other_len (bodies_at_places records (take (i + 1) places))
 octets_some records places i body octets more lt e m h =
-    let cut = ap (sum_by other_len) (bodies_more records places i (Some body) lt e) ∙ sum_by-append other_len (bodies_in records (take i places)) (body ∷ []) in
+    let cut = ap (sum_by other_len) (bodies_more records places i (Some body) lt e) ∙ sum_by-append other_len (bodies_at_places records (take i places)) (body ∷ []) in
     let one : sum_by other_len (body ∷ []) ≡ other_len body = sum_by-cons other_len body [] ∙ omega arith in
     m ∙ ap₂ (λ (a b : ℕ). a + b) h (sym one) ∙ sym cut
 
 pub octets_none : (records : List Record) (places : List ℕ) (i : ℕ) (octets : ℕ) → i < length places → None ≡ body_at records (get_or places i 0)
-    → octets ≡ sum_by other_len (bodies_in records (take i places)) → octets ≡ sum_by other_len (bodies_in records (take (i + 1) places))
+    → octets ≡ sum_by other_len (bodies_at_places records (take i places)) → octets ≡ sum_by other_len (bodies_at_places records (take (i + 1) places))
 octets_none records places i octets lt e h =
-    h ∙ sym (ap (sum_by other_len) (bodies_more records places i None lt e ∙ append-nil (bodies_in records (take i places))))
+    h ∙ sym (ap (sum_by other_len) (bodies_more records places i None lt e ∙ append-nil (bodies_at_places records (take i places))))
 
 pub octets_all : (zone : Zone) (name : List (List ℕ)) (places : List ℕ) (i octets : ℕ) → places ≡ places_from 0 zone.records name → length places ≤ i
-    → octets ≡ sum_by other_len (bodies_in zone.records (take i places)) → octets ≡ sum_by other_len (bodies_at zone name)
+    → octets ≡ sum_by other_len (bodies_at_places zone.records (take i places)) → octets ≡ sum_by other_len (bodies_at zone name)
 octets_all zone name places i octets is le h = h ∙ ap (sum_by other_len) (bodies_all zone.records places i le ∙ bodies_by_places zone places name is)

@@ -3,7 +3,6 @@ use Rattle.std.specs.Prelude.{◌≡◌, ℕ, suc, ◌≤◌, Bool, true, false,
 use Rattle.std.specs.List.{list_any}
 use Rattle.std.specs.Map.{lookup}
 use Rattle.std.specs.Option.{unwrap_or}
-use Rattle.dns_name.specs.Name.{is_under}
 use Rattle.master_reader.specs.declared.record.Body.{Body}
 use Rattle.master_reader.specs.declared.record.Record.{Record}
 use Rattle.zone_answers.specs.declared.answer.Answer.{Answer}
@@ -12,7 +11,7 @@ use Rattle.zone_answers.specs.declared.answer.Step.TheVariants.{Known, Alias}
 use Rattle.zone_answers.specs.declared.node.Node.{Node}
 use Rattle.zone_answers.specs.Zone.{Zone}
 use Rattle.zone_answers.specs.Same.{same_name, distinct_records}
-use Rattle.zone_answers.specs.Answers.{is_delegation, target_of}
+use Rattle.zone_answers.specs.Answers.{has_record, is_delegation, target_of}
 use Rattle.zone_answers.specs.Lend.{AreLendable}
 
 -- the places of the records with this owner, where the first record of the list has this place
@@ -24,10 +23,6 @@ places_from place (r ∷ records) name =
 -- whether an NS record has this owner
 abbrev pub has_delegation : List Record → List (List ℕ) → Bool
 has_delegation records name = list_any (λ r. same_name r.owner name && is_delegation r.body) records
-
--- whether a record stands at or below the name
-abbrev pub has_record : List Record → List (List ℕ) → Bool
-has_record records name = list_any (λ r. is_under r.owner name) records
 
 -- what stands at a name
 abbrev pub summary : List Record → List (List ℕ) → Node
@@ -68,8 +63,8 @@ target_in None = None
 target_in (Some body) = target_of body
 
 -- the bodies of the records at the places
-abbrev pub bodies_in : List Record → List ℕ → List Body
-bodies_in records places = filter_map (body_at records) places
+abbrev pub bodies_at_places : List Record → List ℕ → List Body
+bodies_at_places records places = filter_map (body_at records) places
 
 -- the answer of a step, where an alias leads on as told
 abbrev pub outcome_of : (List (List ℕ) → Answer) → Step → Answer

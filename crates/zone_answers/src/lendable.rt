@@ -5,13 +5,7 @@ ghost use Rattle.dns_name.specs.Name.{IsUnder};
 ghost use Rattle.zone_answers.specs.Lend.{AreLendable, IsBodyFit};
 
 use dns_name::Name;
-use master_reader::{Body, Record, Records, Text};
-
-/// The most octets of a character string (RFC 1035, section 3.3).
-const MAX_STRING: usize = 255;
-
-/// The most octets of the data of a record (RFC 1035, section 3.2.1).
-const MAX_DATA: usize = 65535;
+use master_reader::{Body, MAX_STRING, MAX_TEXT, Record, Records, Text};
 
 /// Whether the records may be lent as those of the zone at the origin: each owner is at or below the origin, and each TXT
 /// record has one or more strings of at most 255 octets, which with a length octet each have at most 65,535.
@@ -53,7 +47,7 @@ fn are_strings_fit(strings: &Text) -> bool
             return false;
         }
         octets += string.len() + 1;
-        if octets > MAX_DATA {
+        if octets > MAX_TEXT {
             return false;
         }
     }

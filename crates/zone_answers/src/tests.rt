@@ -1,5 +1,6 @@
 //! Zones and questions with their answers.
 
+use crate::laws::{found_bodies_are_fit, read_records_are_lendable};
 use crate::{Answer, LendFault, QKind, Zones, are_lendable};
 use addr_bits::{Bytes, Items};
 use dns_name::Name;
@@ -262,4 +263,22 @@ fn names_beside_the_answer(rt: HostRuntime) -> Result<(), Fail> {
         assert_eq!(rt; zones.taken(&name), taken, "{text} taken");
     }
     Ok(())
+}
+
+#[test]
+fn bodies_of_answers(rt: HostRuntime) -> Result<(), Fail> {
+    let mut zones = Zones::new(rt.alloc());
+    let lent = lend_lines(rt.alloc(), &rt, &mut zones, "example", SAMPLE)?;
+    assert!(rt; lent.is_ok());
+    let found = zones.answer(&name_of(&rt, "host1.example"), QKind::A)?;
+    assert!(rt; matches!(found.bodies(), [Body::A(3221225985)]));
+    let none = zones.answer(&name_of(&rt, "host1.example"), QKind::Mx)?;
+    assert!(rt; none.bodies().is_empty());
+    Ok(())
+}
+
+#[test]
+fn laws() {
+    read_records_are_lendable();
+    found_bodies_are_fit();
 }

@@ -3,9 +3,9 @@ ghost use Rattle.std.specs.Prelude.{◌≡◌, ℕ, ◌≤◌, List, length, fil
 ghost use Rattle.std.specs.Option.{option_copied};
 ghost use Rattle.dns_name.specs.Name.{IsUnder};
 ghost use Rattle.zone_answers.specs.Same.{distinct_records};
-ghost use Rattle.zone_answers.specs.Answers.{bodies_at, closest_above, is_cut_off, is_of, name_exists, node_of, target_of};
+ghost use Rattle.zone_answers.specs.Answers.{bodies_at, closest_above, is_cut_off, is_of, name_exists, node_of, target_of, has_record};
 ghost use Rattle.zone_answers.specs.Names.{other_len};
-ghost use Rattle.zone_answers.specs.Index.{body_at, first_of, has_delegation, has_record, places_from, target_in};
+ghost use Rattle.zone_answers.specs.Index.{body_at, first_of, has_delegation, places_from, target_in};
 ghost use Rattle.zone_answers.specs.Lend.{AreLendable, IsBodyFit, IsLeastClash, has_clash};
 
 use crate::answer::{Bodies, QKind};
@@ -133,6 +133,7 @@ impl LentZone {
             return Ok(Some(name.clone()?));
         }
         // A name has at most 255 octets, so `*` fits in front of each name above it.
+        // `label_count` tells the checker that the name is legal.
         let _labels = name.label_count();
         let Ok(wildcard) = self.closest_above(name).child(b"*") else {
             return Ok(None);

@@ -115,6 +115,7 @@ impl Zones {
         ensures answer { IfOk result (λ answer. answer ≡ answer_of self.now name.now kind) }
         ensures zones { AreZones self.now }
     {
+        // The checker takes from this that the lent zones are as `AreZones` says.
         let _zones = &self.zones;
         let mut name = name.clone()?;
         'steps: for _step in 0..=MAX_ALIASES {

@@ -7,9 +7,8 @@ use Rattle.std.proofs.lemmas.List.Folds.{list_all-map}
 use Rattle.master_lex.specs.declared.entry.Entry.{Entry}
 use Rattle.master_lex.specs.declared.entry.Octet.{Octet}
 use Rattle.master_lex.specs.declared.entry.Token.{Token}
-use Rattle.master_lex.specs.Items.{Glyph, Item, bare, blank, comment, plain, octet_of, glyphs_text, items_text, tokens_of, depth_after, may_precede, is_item, is_feed, ends_plain, is_plain_glyph, is_quoted_glyph}
+use Rattle.master_lex.specs.Items.{Glyph, Item, bare, blank, comment, plain, quoted, octet_of, glyphs_text, items_text, tokens_of, depth_after, may_precede, is_item, is_feed, ends_plain, is_plain_glyph, is_quoted_glyph}
 use Rattle.master_lex.specs.Entries.{AreEntries, Spells, has_token, lines_in, starts_blank}
-use Rattle.master_lex.proofs.Examples.{word, string}
 use Rattle.master_reader.specs.declared.record.Record.{Record}
 use Rattle.master_reader.specs.Tokens.{bytes_in}
 use Rattle.master_reader.specs.Entry.{Ask, Context, ask_of, context_behind}
@@ -41,6 +40,13 @@ bare_text [] = refl
 bare_text (b ∷ bytes) = ap (λ (bs : List ℕ). b ∷ bs) (bare_text bytes)
 
 -- ---- words and strings
+
+-- a plain and a quoted token without escapes
+abbrev word : List ℕ → Item
+word bytes = plain (map bare bytes)
+
+abbrev string : List ℕ → Item
+string bytes = quoted (map bare bytes)
 
 -- a byte that may stand in a word, and one that may stand in a string
 abbrev pub is_bare_byte : ℕ → Bool

@@ -1,11 +1,12 @@
 use Rattle.std.proofs.Common.{ℕ, ◌+◌, ◌-◌, ◌<◌, ◌^◌, [], List, Option, length, take, drop, get_or, subst, sym, ap, arith, length-take-le}
 use Rattle.std.specs.Prelude.{IfSome, MatchOption}
 use Rattle.std.proofs.Math.Seq.{take_all}
+use Rattle.std.proofs.lemmas.List.{take_rest}
 use Rattle.std.proofs.lemmas.Result.{err_from_is_err_and}
 use Rattle.master_lex.specs.declared.entry.Entry.{Entry}
 use Rattle.master_lex.specs.File.{IsNext, IsNoneLeft}
 use Rattle.master_lex.specs.Pieces.{StandsFor, Closes}
-use Rattle.master_lex.proofs.Lexers.{Follows, next_from_closes, end_answers, here_counted, fault_at_end, fault_inside, cut_at, slice_end, slice_none}
+use Rattle.master_lex.proofs.Lexers.{Follows, next_from_closes, end_answers, here_counted, fault_at_end, fault_inside, cut_at, slice_none}
 use Rattle.master_lex.proofs.lexer.next_entry.Goals as goal
 
 pub returns-in_err-next-clause-bad : goal.returns-in_err-next-clause-bad
@@ -23,7 +24,7 @@ follows c =
     let k = c.loop-place.place in
     let few : c.args.line + length (take k bytes) < 2 ^ 64 = omega (arith, c.requires.few, length-take-le k bytes (omega arith)) in
     let closes = subst (λ (o : Option Entry). IfSome o (λ entry. Closes c.args.line (take k bytes) [] (get_or bytes k 0) entry c.in_ok-next.next.line)) c.in-Some.is (c.in_ok-next.ensures.closed c.args.line (take k bytes) [] c.loop-place.invariant few) in
-    subst (λ (l : List ℕ). Follows c.args.line bytes c.in-Some.entry c.line.result l) (sym (slice_end bytes (k + 1)))
+    subst (λ (l : List ℕ). Follows c.args.line bytes c.in-Some.entry c.line.result l) (sym (take_rest bytes (k + 1)))
     (subst (λ (n : ℕ). Follows c.args.line bytes c.in-Some.entry n (drop (k + 1) bytes)) (sym c.line.ensures)
     (next_from_closes c.args.line bytes (take k bytes) (drop (k + 1) bytes) (get_or bytes k 0) c.in-Some.entry c.in_ok-next.next.line closes (cut_at bytes k c.loop-place-test.true) c.requires.counted c.requires.few))
 

@@ -3,7 +3,8 @@ use Rattle.dns_name.specs.Name.{is_under}
 use Rattle.zone_answers.specs.declared.node.Node.{Node}
 use Rattle.zone_answers.specs.Index.{filled}
 use Rattle.zone_answers.proofs.Nodes.{at}
-use Rattle.zone_answers.proofs.Indexes.{index_more, or_true, or_false, owner_there, some_there}
+use Rattle.std.proofs.lemmas.Bool.{or_right}
+use Rattle.zone_answers.proofs.Indexes.{index_more, or_false, owner_there, some_there}
 use Rattle.zone_answers.proofs.node.add_record.Goals as goal
 
 pub returns-then-delegates : goal.returns-then-delegates
@@ -14,7 +15,7 @@ returns-then-delegates c = λ records index place.
     here
     (ap₂ (λ (l : List ℕ) (b : Bool). let n : Node = record { places = l; delegates = b } in n)
     (c.in_ok-push.ensures.ok ∙ ap (λ n. c.in-Some.node.now.places ++ n ∷ []) place)
-    (sym (or_true c.in-Some.node.now.delegates _ (sym c.if-delegates.ensures))))
+    (sym (or_right c.in-Some.node.now.delegates _ (sym c.if-delegates.ensures))))
     ((c.get_mut.follows.holds _).3 (some_there _ _ here)).0
 
 pub returns-else-delegates : goal.returns-else-delegates
