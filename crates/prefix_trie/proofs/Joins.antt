@@ -1,43 +1,24 @@
 -- The node of answers on the values of two nodes, from those of the halves.
-use Rattle.std.proofs.Common.{◌≡◌, ℕ, ◌+◌, ◌<◌, ◌^◌, ⊎_elim, Bool, true, false, List, refl, sym, ◌∙◌, subst}
-use Rattle.std.specs.Prelude.{Result, Ok}
+use Rattle.std.proofs.Common.{◌≡◌, ℕ, ◌+◌, ◌<◌, ◌^◌, ⊎_elim, Bool, List, refl, ◌∙◌, subst}
+use Rattle.std.specs.Prelude.{Result}
 use Rattle.std.specs.Cmp.{IsEquivalence}
 use Rattle.addr_bits.specs.Width.{bit_of}
 use Rattle.addr_bits.specs.Prefix.{Cidr}
 use Rattle.addr_bits.proofs.Cidrs.{bit_cases}
 use Rattle.prefix_trie.specs.Leaves.{CombinesAt, whole_cidr}
-use Rattle.prefix_trie.specs.Node.{tree_at, leaves_of, same_leaves, Differ, IsSettled, IsForkOf, IsJoin}
+use Rattle.prefix_trie.specs.Node.{tree_at, leaves_of, lower_of, upper_of, IsSettled, IsForkOf, IsJoin}
 use Rattle.prefix_trie.specs.Tree.{Tree, Whole, Halved}
 use Rattle.prefix_trie.proofs.Sets.{tree_at-lower, tree_at-upper}
 use Rattle.prefix_trie.proofs.Maps.{value_at-root}
-
--- ---- the node of two halves
-differ_from_test : {V : Type 0} (eq : V → V → Bool) (l u : Tree V) → same_leaves eq l u ≡ false → Differ eq l u
-differ_from_test eq l (Whole w) h = h
-differ_from_test eq l (Halved k u) h = tt
-
-pub forked_apart : {V : Type 0} (bits : ℕ) {eq : V → V → Bool} → IsEquivalence eq → (len : ℕ) (l u node : Tree V) (l' u' : Tree V) → l' ≡ l → u' ≡ u → len < bits → IsSettled bits eq (len + 1) l → IsSettled bits eq (len + 1) u → same_leaves eq l u ≡ false → IsForkOf bits eq len l u (Halved l' u')
-forked_apart bits {eq} e len l u node l' u' i j h s t d = rw (i, j) (record {
-  settled = (h, differ_from_test eq l u d, s, t);
-  lower = λ a z. rw (tree_at-lower bits len l u a z) (e.refl (tree_at bits (len + 1) l a));
-  upper = λ a z. rw (tree_at-upper bits len l u a z) (e.refl (tree_at bits (len + 1) u a));
-})
-
-pub forked_alike : {V : Type 0} (bits : ℕ) {eq : V → V → Bool} → IsEquivalence eq → (len : ℕ) (l u : Tree V) → same_leaves eq l u ≡ true → IsForkOf bits eq len l u l
-forked_alike bits e len (Whole v) (Whole w) h = record { settled = tt; lower = λ a z. e.refl v; upper = λ a z. sym (e.symm v w) ∙ h }
-forked_alike bits e len (Halved k n) (Whole w) h = absurd (cc)
-forked_alike bits e len l (Halved k n) h = absurd (cc)
 
 -- ---- the halves of a node, as a walk sees them
 pub record HalvesOf {V : Type 0} (bits len : ℕ) (node l u : Tree V) : Type 0 where
   pub lower : (a : ℕ) → bit_of bits a len ≡ 0 → tree_at bits len node a ≡ tree_at bits (len + 1) l a
   pub upper : (a : ℕ) → bit_of bits a len ≡ 1 → tree_at bits len node a ≡ tree_at bits (len + 1) u a
 
-pub halves_fork : {V : Type 0} (bits len : ℕ) (node l u l' u' : Tree V) → node ≡ Halved l u → l' ≡ l → u' ≡ u → HalvesOf bits len node l' u'
-halves_fork bits len node l u l' u' e i j = rw (e, i, j) (record { lower = λ a z. tree_at-lower bits len l u a z; upper = λ a z. tree_at-upper bits len l u a z })
-
-pub halves_leaf : {V : Type 0} (bits len : ℕ) (node : Tree V) (v : V) → node ≡ Whole v → HalvesOf bits len node node node
-halves_leaf bits len node v e = rw e (record { lower = λ a z. refl; upper = λ a z. refl })
+pub halves_below : {V : Type 0} (bits len : ℕ) (node l u : Tree V) → l ≡ lower_of node → u ≡ upper_of node → HalvesOf bits len node l u
+halves_below bits len (Whole v) l u i j = rw (i, j) (record { lower = λ a z. refl; upper = λ a z. refl })
+halves_below bits len (Halved k n) l u i j = rw (i, j) (record { lower = λ a z. tree_at-lower bits len k n a z; upper = λ a z. tree_at-upper bits len k n a z })
 
 pub join_halves : {V U X E : Type 0} (bits : ℕ) {eq : X → X → Bool} → IsEquivalence eq → (answers : V → U → Result X E → Type 0) (len : ℕ) (left left_l left_u : Tree V) (right right_l right_u : Tree U) (l u node : Tree X)
     → HalvesOf bits len left left_l left_u → HalvesOf bits len right right_l right_u → IsForkOf bits eq len l u node
@@ -53,10 +34,6 @@ join_halves bits {eq} e answers len left left_l left_u right right_l right_u l u
       rw (x.upper a z, y.upper a z) (r.0, r.1, e.congr r.0 (tree_at bits (len + 1) u a) (tree_at bits len node a) r.2 ∙ f.upper a z))
       (bit_cases bits a len),
 )
-
-pub join_leaves : {V U X E : Type 0} (bits : ℕ) {eq : X → X → Bool} → IsEquivalence eq → (answers : V → U → Result X E → Type 0) (len : ℕ) (left : Tree V) (right : Tree U) (v : V) (u : U) (x : X)
-    → left ≡ Whole v → right ≡ Whole u → answers v u (Ok x) → IsJoin bits eq answers len left right (Whole x)
-join_leaves bits e answers len left right v u x i j r = rw (i, j) (tt, λ a. (x, r, e.refl x))
 
 -- ---- what holds at the root
 pub combines : {V U X E : Type 0} (bits : ℕ) (veq : V → V → Bool) (ueq : U → U → Bool) (eq : X → X → Bool) (answers : V → U → Result X E → Type 0) (left : Tree V) (right : Tree U) (node : Tree X) (view : List (Cidr × V)) (view' : List (Cidr × U))

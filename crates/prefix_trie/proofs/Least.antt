@@ -1,11 +1,11 @@
 -- The least address of a prefix whose value a test accepts, from those of its halves.
-use Rattle.std.proofs.Common.{◌≡◌, ℕ, ◌+◌, ◌^◌, ◌<◌, ◌⊎◌, ⊎_elim, inl, inr, Bool, true, false, List, arith, sym, ◌∙◌, subst}
+use Rattle.std.proofs.Common.{◌≡◌, ℕ, ◌+◌, ◌^◌, ◌<◌, ◌⊎◌, ⊎_elim, inl, inr, Bool, true, false, IfNone, Option, Some, None, List, arith, sym, ◌∙◌, subst}
 use Rattle.addr_bits.specs.Prefix.{Cidr, IsCidr, Covers, lower_half, upper_half}
 use Rattle.addr_bits.proofs.Cidrs.{bit_cases, bit_of-Covers, bit_of-past, bit_of-upper_half, Covers-lower_half, Covers-upper_half, Covers-from_lower, Covers-from_upper, range_from_Covers}
 use Rattle.prefix_trie.specs.Leaves.{ValueAnswers, whole_cidr}
 use Rattle.prefix_trie.specs.Node.{tree_at, leaves_of, IsSettled, IsLeastAt}
 use Rattle.prefix_trie.proofs.Maps.{value_at-root, cut_of-zero}
-use Rattle.prefix_trie.specs.Tree.{Tree, Whole, Halved}
+use Rattle.prefix_trie.specs.Tree.{Tree, Halved}
 use Rattle.prefix_trie.proofs.Sets.{tree_at-lower, tree_at-upper}
 
 -- the value at an address of a half
@@ -72,6 +72,11 @@ NoneIn bits answers p n = (b : ℕ) → Covers bits p b → answers (tree_at bit
 
 pub none_moved : {V : Type 0} (bits : ℕ) (answers : V → Bool → Type 0) (p p' : Cidr) (n n' : Tree V) → p ≡ p' → n ≡ n' → NoneIn bits answers p n → NoneIn bits answers p' n'
 none_moved bits answers p p' n n' e i t = subst (λ m. NoneIn bits answers p' m) i (subst (λ (r : Cidr). NoneIn bits answers r n) e t)
+
+-- what follows where nothing is found
+pub none_then : {A : Type 0} (found : Option A) {P Q : Type 0} → IfNone found P → (P → Q) → IfNone found Q
+none_then None h f = f h
+none_then (Some a) h f = tt
 
 -- ---- what holds at the root, as the list of leaves says it
 pub least_accepted : {V : Type 0} (bits : ℕ) (eq : V → V → Bool) (answers : V → Bool → Type 0) (t : Tree V) (view : List (Cidr × V)) (a : ℕ) → leaves_of bits whole_cidr t ≡ view → IsSettled bits eq 0 t → a < 2 ^ bits → IsLeastAt bits whole_cidr answers (tree_at bits 0 t) a → ValueAnswers bits answers view a true

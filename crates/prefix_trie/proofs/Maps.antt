@@ -1,15 +1,15 @@
 -- What the nodes' facts say of the list of leaves below the root.
-use Rattle.std.specs.Prelude.{Contains, ◌==◌, if◌then◌else◌}
+use Rattle.std.specs.Prelude.{Contains}
 use Rattle.std.proofs.lemmas.Nat.{pow_pos}
 use Rattle.std.proofs.lemmas.List.Elements.{Contains-append_cases, Contains-push_cases, Contains-push, Contains-append_left, Contains-append_right}
-use Rattle.std.proofs.Common.{◌≡◌, ℕ, ◌+◌, ◌-◌, ◌^◌, ◌<◌, Bool, true, false, Some, None, List, [], ◌∷◌, ◌++◌, arith, refl, sym, ap, ◌∙◌, subst, append_assoc, ⊎_elim}
+use Rattle.std.proofs.Common.{◌≡◌, ℕ, ◌+◌, ◌-◌, ◌^◌, ◌<◌, Bool, true, Some, List, [], ◌∷◌, ◌++◌, arith, sym, ap, ◌∙◌, subst, append_assoc, ⊎_elim}
 use Rattle.std.specs.Cmp.{IsEquivalence}
 use Rattle.addr_bits.specs.Width.{cut_of}
 use Rattle.addr_bits.specs.Prefix.{Cidr, IsCidr, Covers, lower_half, upper_half}
 use Rattle.addr_bits.proofs.Cidrs.{Covers-from_range}
 use Rattle.prefix_trie.specs.Leaves.{value_at, Alike, SameLeaves, Gains, CoverInOrder, IsTrie, whole_cidr}
 use Rattle.prefix_trie.specs.Node.{leaves_of, tree_at, IsSettled, IsSetAt}
-use Rattle.prefix_trie.specs.Tree.{Tree, Whole, Halved}
+use Rattle.prefix_trie.specs.Tree.{Tree, Halved}
 use Rattle.prefix_trie.proofs.Trees.{value_at-leaves_of, whole-IsCidr, whole_ends, IsTrie-leaves_of}
 
 -- the root covers every address
@@ -54,17 +54,6 @@ pub SameLeaves-from_Gains : {V : Type 0} (eq : V → V → Bool) (old new leaves
 SameLeaves-from_Gains {V} eq old new leaves e (more, i, s) =
     let f : new ≡ more = i ∙ ap (λ (n : List (Cidr × V)). n ++ more) e in
     subst (λ n. SameLeaves eq n leaves) (sym f) s
-
--- the values at an address are alike, where there is one
-pub value_at-SameLeaves : {V : Type 0} (bits : ℕ) (eq : V → V → Bool) (ks ls : List (Cidr × V)) (a : ℕ) → SameLeaves eq ks ls → (value_at bits ls a ≡ None → ⊥) → Alike eq (value_at bits ks a) (value_at bits ls a)
-value_at-SameLeaves bits eq [] [] a s n = absurd (n refl)
-value_at-SameLeaves bits eq [] (l ∷ ls) a s n = absurd s
-value_at-SameLeaves bits eq (k ∷ ks) [] a s n = absurd s
-value_at-SameLeaves bits eq (k ∷ ks) (l ∷ ls) a s n = rw s.0 (step (cut_of bits a l.0.len == l.0.start) (value_at-SameLeaves bits eq ks ls a s.2) n)
-  where
-    step : (b : Bool) → ((value_at bits ls a ≡ None → ⊥) → Alike eq (value_at bits ks a) (value_at bits ls a)) → ((if b then Some l.1 else value_at bits ls a) ≡ None → ⊥) → Alike eq (if b then Some k.1 else value_at bits ks a) (if b then Some l.1 else value_at bits ls a)
-    step true i m = s.1
-    step false i m = i m
 
 pub CoverInOrder-SameLeaves : {V : Type 0} (bits : ℕ) (eq : V → V → Bool) (from to : ℕ) (ks ls : List (Cidr × V)) → SameLeaves eq ks ls → CoverInOrder bits from to ls → CoverInOrder bits from to ks
 CoverInOrder-SameLeaves bits eq from to [] [] s c = c

@@ -1,4 +1,4 @@
--- A trie as contracts see it: the list of its leaves, each a prefix and its value.
+-- A trie as contracts see it: the list of its leaves, each a prefix and its value; the project's own form.
 use Rattle.std.specs.Prelude.{◌≡◌, ℕ, ◌+◌, ◌-◌, ◌^◌, ◌<◌, ◌==◌, Bool, true, false, List, [], ◌∷◌, ◌++◌, Option, Some, None, Result, Ok, IsSomeAnd, if◌then◌else◌, Contains}
 use Rattle.std.specs.Fn.{FnReturns, Shared}
 use denote.Ref.{Bor}

@@ -1,4 +1,4 @@
--- What the nodes of a trie mean. No contract of another crate speaks of them.
+-- What the nodes of a trie mean: the project's own form. No contract of another crate speaks of them.
 use Rattle.std.specs.Prelude.{◌≡◌, ℕ, ◌+◌, ◌<◌, ◌==◌, Bool, true, false, List, [], ◌∷◌, ◌++◌, Option, Some, None, Result, MatchBool, if◌then◌else◌}
 use Rattle.addr_bits.specs.Width.{bit_of, cut_of}
 use Rattle.addr_bits.specs.Prefix.{Cidr, Covers, lower_half, upper_half}
@@ -22,7 +22,7 @@ abbrev pub tree_at : {V : Type 0} → (bits len : ℕ) → Tree V → (a : ℕ) 
 tree_at bits len (Whole v) a = v
 tree_at bits len (Halved l u) a = if bit_of bits a len == 1 then tree_at bits (len + 1) u a else tree_at bits (len + 1) l a
 
--- both nodes are leaves, and their values are equal
+-- the node is a leaf, and its value equals this one
 abbrev pub leaf_has : {V : Type 0} → (V → V → Bool) → Tree V → V → Bool
 leaf_has eq (Whole w) v = eq w v
 leaf_has eq (Halved l u) v = false
@@ -32,6 +32,7 @@ abbrev pub Differ : {V : Type 0} → (V → V → Bool) → Tree V → Tree V �
 Differ eq l (Whole w) = leaf_has eq l w ≡ false
 Differ eq l (Halved k u) = Unit {0}
 
+-- the node is no leaf
 abbrev pub IsFork : {V : Type 0} → Tree V → Type 0
 IsFork (Whole v) = ⊥
 IsFork (Halved l u) = Unit {0}
@@ -79,6 +80,15 @@ pub record IsForkOf {V : Type 0} (bits : ℕ) (eq : V → V → Bool) (len : ℕ
 abbrev pub same_leaves : {V : Type 0} → (V → V → Bool) → Tree V → Tree V → Bool
 same_leaves eq l (Whole w) = leaf_has eq l w
 same_leaves eq l (Halved k u) = false
+
+-- the node for the lower half of a node, and that for its upper half: a leaf stands for both of its own
+abbrev pub lower_of : {V : Type 0} → Tree V → Tree V
+lower_of (Whole v) = Whole v
+lower_of (Halved l u) = l
+
+abbrev pub upper_of : {V : Type 0} → Tree V → Tree V
+upper_of (Whole v) = Whole v
+upper_of (Halved l u) = u
 
 -- at each address the node has an answer on the values of two others
 abbrev pub IsJoin : {V U X E : Type 0} → (bits : ℕ) → (X → X → Bool) → (V → U → Result X E → Type 0) → (len : ℕ) → Tree V → Tree U → Tree X → Type 0

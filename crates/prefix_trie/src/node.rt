@@ -1,9 +1,9 @@
-ghost use Rattle.std.specs.Prelude.{◌≡◌, ◌+◌, ◌<◌, ◌≤◌, ℕ, false, IfOk, IfSome, IfNone, OnOk, OnErr};
+ghost use Rattle.std.specs.Prelude.{◌≡◌, ◌+◌, ◌<◌, ◌≤◌, ◌⊎◌, ℕ, false, IfOk, IfSome, IfNone, MatchOption, OnOk, OnErr};
 ghost use Rattle.std.specs.Fn.{FnReturnsAt};
 ghost use Rattle.addr_bits.specs.Prefix.{IsCidr, Covers};
 ghost use Rattle.prefix_trie.specs.Leaves.{ClonesEqual, Gains, FnReturnsAtBoth};
 ghost use Rattle.prefix_trie.specs.Tree.{Whole};
-ghost use Rattle.prefix_trie.specs.Node.{tree_of, tree_at, leaves_of, leaf_has, IsFork, IsSettled, IsSetAt, IsPut, Settles, IsLeastAt, IsForkOf, IsJoin, same_leaves};
+ghost use Rattle.prefix_trie.specs.Node.{tree_of, tree_at, leaves_of, leaf_has, IsFork, IsSettled, IsSetAt, IsPut, Settles, IsLeastAt, IsForkOf, IsJoin, same_leaves, lower_of, upper_of};
 
 use crate::Leaves;
 use addr_bits::{Prefix, Width};
@@ -211,13 +211,10 @@ pub(crate) fn least<W: Width, V: Clone + Eq, F: Fn(&V) -> bool>(
         }
         Node::Fork(halves) => {
             let (lower, upper) = p.halves();
-            match least(&halves.lower, lower, test) {
-                Some(a) => Some(a),
-                None => match least(&halves.upper, upper, test) {
-                    Some(a) => Some(a),
-                    None => None,
-                },
+            if let Some(a) = least(&halves.lower, lower, test) {
+                return Some(a);
             }
+            least(&halves.upper, upper, test)
         }
     }
 }
@@ -262,6 +259,31 @@ fn answer<V, U, X, F: Fn(&V, &U) -> Result<X, AllocError>>(
     f(v, u)
 }
 
+/// The values of two nodes that are leaves; `None` where one is a fork.
+fn values<'a, V, U>(left: &'a Node<V>, right: &'a Node<U>) -> Option<(&'a V, &'a U)>
+    ensures { MatchOption result (IsFork (tree_of left.now) ⊎ IsFork (tree_of right.now))
+        (λ pair. (tree_of left.now ≡ Whole pair.0.now) × (tree_of right.now ≡ Whole pair.1.now)) }
+{
+    match left {
+        Node::Leaf(v) => match right {
+            Node::Leaf(u) => Some((v, u)),
+            Node::Fork(_) => None,
+        },
+        Node::Fork(_) => None,
+    }
+}
+
+/// The nodes for the halves of a node: a leaf stands for both of its own.
+fn below<V>(node: &Node<V>) -> (&Node<V>, &Node<V>)
+    ensures lower { tree_of result.0.now ≡ lower_of (tree_of node.now) }
+    ensures upper { tree_of result.1.now ≡ upper_of (tree_of node.now) }
+{
+    match node {
+        Node::Leaf(_) => (node, node),
+        Node::Fork(halves) => (&halves.lower, &halves.upper),
+    }
+}
+
 /// The node that has at each address an answer of the function on the values of two nodes.
 pub(crate) fn join<
     W: Width,
@@ -275,44 +297,18 @@ pub(crate) fn join<
     requires callable { F.IsAlwaysCallable f.now }
     ensures { IfOk result (λ node. IsJoin W.BITS X.eq (FnReturnsAtBoth F.Fn f.now) depth (tree_of left.now) (tree_of right.now) (tree_of node)) }
 {
-    match left {
-        Node::Leaf(v) => match right {
-            Node::Leaf(u) => {
-                let value = answer(f, v, u)?;
-                Ok(Node::Leaf(value))
-            }
-            Node::Fork(right) => {
-                let lower = join::<W, V, U, X, F>(alloc, left, &right.lower, depth + 1, f)?;
-                let upper = join::<W, V, U, X, F>(alloc, left, &right.upper, depth + 1, f)?;
-                let node = fork::<W, X>(alloc, lower, upper, depth)?;
-                Ok(node)
-            }
-        },
-        Node::Fork(halves) => match right {
-            Node::Leaf(_) => {
-                let lower = join::<W, V, U, X, F>(alloc, &halves.lower, right, depth + 1, f)?;
-                let upper = join::<W, V, U, X, F>(alloc, &halves.upper, right, depth + 1, f)?;
-                let node = fork::<W, X>(alloc, lower, upper, depth)?;
-                Ok(node)
-            }
-            Node::Fork(right) => {
-                let lower = join::<W, V, U, X, F>(
-                    alloc,
-                    &halves.lower,
-                    &right.lower,
-                    depth + 1,
-                    f,
-                )?;
-                let upper = join::<W, V, U, X, F>(
-                    alloc,
-                    &halves.upper,
-                    &right.upper,
-                    depth + 1,
-                    f,
-                )?;
-                let node = fork::<W, X>(alloc, lower, upper, depth)?;
-                Ok(node)
-            }
-        },
+    match values(left, right) {
+        Some((v, u)) => {
+            let value = answer(f, v, u)?;
+            Ok(Node::Leaf(value))
+        }
+        None => {
+            let (left_lower, left_upper) = below(left);
+            let (right_lower, right_upper) = below(right);
+            let lower = join::<W, V, U, X, F>(alloc, left_lower, right_lower, depth + 1, f)?;
+            let upper = join::<W, V, U, X, F>(alloc, left_upper, right_upper, depth + 1, f)?;
+            let node = fork::<W, X>(alloc, lower, upper, depth)?;
+            Ok(node)
+        }
     }
 }

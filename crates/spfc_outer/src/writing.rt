@@ -1,5 +1,5 @@
 //! Writes to a sink until all is written.
-ghost use Rattle.std.specs.Prelude.{◌≡◌, ◌≤◌, [], length, IsOk, OnOk, OnErr};
+ghost use Rattle.std.specs.Prelude.{◌≤◌, length, IsOk, OnOk, OnErr};
 ghost use Rattle.std.specs.Io.KnownBytes.{Appends};
 ghost use Rattle.spfc_outer.specs.Causes.{HasCause};
 ghost use Rattle.spfc_outer.specs.Moved.{AppendsPart};
