@@ -54,20 +54,30 @@ fn written_terms(rt: HostRuntime) {
 
 #[test]
 fn covered_addresses(rt: HostRuntime) {
-    let ten = Net::V4(Prefix::new(0x0a00_0000, 8));
-    let low = Net::V6(Prefix::new(0, 1));
     let answers = [
-        (ten, Address::V4(0x0aff_ffff), true),
-        (ten, Address::V4(0x0b00_0000), false),
-        (ten, Address::V6(0x0a00_0000), false),
-        (low, Address::V6(1), true),
-        (low, Address::V6(u128::MAX), false),
-        (low, Address::V4(1), false),
-        (Net::All, Address::V4(0), true),
-        (Net::All, Address::V6(u128::MAX), true),
+        (
+            four(Verdict::Pass, 0x0a00_0000, 8),
+            Address::V4(0x0aff_ffff),
+            true,
+        ),
+        (
+            four(Verdict::Pass, 0x0a00_0000, 8),
+            Address::V4(0x0b00_0000),
+            false,
+        ),
+        (
+            four(Verdict::Pass, 0x0a00_0000, 8),
+            Address::V6(0x0a00_0000),
+            false,
+        ),
+        (six(Verdict::Pass, 0, 1), Address::V6(1), true),
+        (six(Verdict::Pass, 0, 1), Address::V6(u128::MAX), false),
+        (six(Verdict::Pass, 0, 1), Address::V4(1), false),
+        (all(Verdict::Pass), Address::V4(0), true),
+        (all(Verdict::Pass), Address::V6(u128::MAX), true),
     ];
-    for (net, address, answer) in answers {
-        assert_eq!(rt; net.covers(address), answer);
+    for (term, address, answer) in answers {
+        assert_eq!(rt; term.net.covers(address), answer);
     }
 }
 
