@@ -13,6 +13,7 @@ needs_text needs = 32 ∷ decimal needs.fail ++ 32 ∷ decimal needs.softfail ++
 abbrev pub row_line : (address : List ℕ) → (len : ℕ) → Needs → List ℕ
 row_line address len needs = codes "; row " ++ address ++ 47 ∷ decimal len ++ needs_text needs ++ 10 ∷ []
 
+-- the line of each row, in their order
 abbrev pub row_lines : (address_text : ℕ → List ℕ) → List NeedRow → List ℕ
 row_lines address_text rows = flat_map (λ row. row_line (address_text row.prefix.start) row.prefix.len row.needs) rows
 

@@ -1,5 +1,5 @@
 //! Writing the lines of a table.
-ghost use Rattle.std.specs.Prelude.{◌≡◌, ◌++◌, ◌∷◌, [], decimal, IfOk, OnOk};
+ghost use Rattle.std.specs.Prelude.{◌≡◌, ◌++◌, ◌∷◌, decimal, IfOk, OnOk};
 ghost use Rattle.addr_bits.specs.Ip4.{ip4_text};
 ghost use Rattle.addr_bits.specs.Ip6.{ip6_text};
 ghost use Rattle.bound_table.specs.Lines.{needs_text, row_line, row_lines, table_text};

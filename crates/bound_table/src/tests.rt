@@ -3,7 +3,7 @@ ghost use Rattle.std.specs.Prelude.{◌<◌, ◌^◌};
 ghost use Rattle.spf_grammar.specs.declared.verdict.Verdict.{Verdict};
 ghost use Rattle.fewest_terms.specs.Tables.{number};
 
-use crate::{check_row, write_table};
+use crate::{check_row, table_bounds, write_table};
 use addr_bits::Prefix;
 use fewest_terms::{Needs, Row, Rows};
 use std::test::Fail;
@@ -34,6 +34,7 @@ fn rows_by_the_rule(rt: HostRuntime) {
     for (row, answer) in rows {
         assert_eq!(rt; check_row(&row, &low, &high), answer);
     }
+    table_bounds();
 }
 
 #[test]

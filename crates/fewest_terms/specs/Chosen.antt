@@ -17,6 +17,7 @@ use Rattle.fewest_terms.specs.Totals.{need_of_both, total, verdict_of_all}
 abbrev pub term_for : Cidr → (verdict had : Verdict) → List (Cidr × Verdict)
 term_for p d c = if is_same d c then [] else (p, d) ∷ []
 
+-- the same for the prefix with k open bits whose first bits are n
 abbrev pub one_term : (w k n : ℕ) → (verdict had : Verdict) → List (Cidr × Verdict)
 one_term w k n d c = term_for (prefix_of w k n) d c
 
@@ -54,8 +55,10 @@ chosen_list v4 v6 =
     let c : Verdict = verdict_of_all (need_of_both v4 v6) in
     map (flat V4) (chosen 32 v4 32 0 c) ++ (map (flat V6) (chosen 128 v6 128 0 c) ++ all_term c)
 
+-- the chosen list gives each address its verdict
 abbrev pub ChosenIsSame : Type 0
 ChosenIsSame = (v4 v6 : ℕ → Verdict) → IsSame v4 v6 (chosen_list v4 v6)
 
+-- it has as many terms as the total says
 abbrev pub ChosenIsShortest : Type 0
 ChosenIsShortest = (v4 v6 : ℕ → Verdict) → length (chosen_list v4 v6) ≡ total v4 v6

@@ -33,11 +33,12 @@ leaves_of w v (suc k) n =
 abbrev pub AreLeaves : (w : ℕ) → List (Cidr × Verdict) → Type 0
 AreLeaves w leaves = leaves ≡ leaves_of w (verdict_at w leaves) w 0
 
--- the first bits of the prefix of this length that begins at a leaf
+-- where the first leaf begins
 abbrev pub first_start : List (Cidr × Verdict) → ℕ
 first_start [] = 0
 first_start (leaf ∷ leaves) = leaf.0.start
 
+-- the first bits of the prefix of this length that begins at a leaf
 abbrev pub bits_at : (w : ℕ) → List (Cidr × Verdict) → (from len : ℕ) → ℕ
 bits_at w leaves from len = first_start (drop from leaves) / 2 ^ (w - len)
 

@@ -47,6 +47,7 @@ KeepsRowRule w v row rows =
     let n : ℕ = row.prefix.start / 2 ^ (w - row.prefix.len) in
     (c : Verdict) → number row.needs c ≤ at_mixed (claimed_of_halves v k n rows) c
 
+-- each row keeps it, with the rows that follow
 abbrev pub KeepRowRule : (w : ℕ) → (ℕ → Verdict) → List NeedRow → Type 0
 KeepRowRule w v [] = Unit {0}
 KeepRowRule w v (row ∷ rows) = KeepsRowRule w v row rows × KeepRowRule w v rows
@@ -66,6 +67,7 @@ pub record IsGoodTable (v4 v6 : ℕ → Verdict) (rows4 rows6 : List NeedRow) (s
   pub six : AreGoodRows 128 v6 rows6
   pub whole : sum ≡ claimed_total v4 v6 rows4 rows6
 
+-- the total of a good table is at most the length of each list with the same verdicts
 abbrev pub TableBounds : Type 0
 TableBounds =
     (v4 v6 : ℕ → Verdict) (rows4 rows6 : List NeedRow) (sum : ℕ) (list : List FlatTerm)
@@ -84,5 +86,6 @@ need_rows w v (suc k) n =
     ∷ (need_rows w v k (2 * n) ++ need_rows w v k (2 * n + 1))
     else []
 
+-- the rows of needs, with the total of the needs, are a good table
 abbrev pub NeedRowsAreGood : Type 0
 NeedRowsAreGood = (v4 v6 : ℕ → Verdict) → IsGoodTable v4 v6 (need_rows 32 v4 32 0) (need_rows 128 v6 128 0) (least_with_all (need_of_both v4 v6))

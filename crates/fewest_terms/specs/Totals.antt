@@ -21,6 +21,7 @@ verdict_of_all s =
 unfoldable pub need_of_both : (v4 v6 : ℕ → Verdict) → Verdict → ℕ
 need_of_both v4 v6 c = need v4 32 0 c + need v6 128 0 c
 
+-- how many terms a shortest list for both families has
 unfoldable pub total : (v4 v6 : ℕ → Verdict) → ℕ
 total v4 v6 = least_with_all (need_of_both v4 v6)
 

@@ -1,5 +1,5 @@
 //! How many terms a prefix needs.
-ghost use Rattle.std.specs.Prelude.{ℕ, ◌≡◌, ◌+◌, ◌^◌, ◌<◌};
+ghost use Rattle.std.specs.Prelude.{◌≡◌, ◌+◌, ◌^◌, ◌<◌};
 ghost use Rattle.spf_grammar.specs.declared.verdict.Verdict.{Verdict};
 ghost use Rattle.fewest_terms.specs.Verdicts.{cost, least as least_of};
 ghost use Rattle.fewest_terms.specs.Needs.{at_mixed};
@@ -26,7 +26,7 @@ pub struct Needs {
 impl Needs {
     /// What a prefix needs whose addresses all have this verdict: one term, and none where they have it already.
     #[tactic(auto, unfolding(crate::specs::Verdicts::cost))]
-    pub fn of_one(verdict: Verdict) -> Needs
+    pub(crate) fn of_one(verdict: Verdict) -> Needs
         ensures { (c : Verdict) → number_of result c ≡ cost verdict c }
     {
         let all = Needs {
@@ -44,7 +44,7 @@ impl Needs {
     }
 
     /// How many terms are needed where the addresses have this verdict otherwise.
-    pub fn number(self, verdict: Verdict) -> u64
+    pub(crate) fn number(self, verdict: Verdict) -> u64
         ensures { result ≡ number_of self verdict }
     {
         match verdict {
@@ -123,7 +123,7 @@ impl Needs {
 
     /// The least number of terms of a list, where this is what all addresses need: `all` is one term more.
     #[tactic(auto, unfolding(crate::specs::Totals::least_with_all))]
-    pub fn total(self) -> u64
+    pub(crate) fn total(self) -> u64
         ensures { result ≡ least_with_all (number_of self) }
     {
         let fail = self.fail.saturating_add(1);

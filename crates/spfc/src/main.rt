@@ -42,6 +42,3 @@ fn words_of(alloc: Global, args: env::Args) -> Result<Vec<String>, AllocError> {
     }
     Ok(words)
 }
-
-#[cfg(test)]
-mod tests;

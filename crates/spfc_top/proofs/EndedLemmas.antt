@@ -1,5 +1,6 @@
 -- What follows from how a run ended.
 use Rattle.std.proofs.Common.{◌≡◌, ◌<◌, ◌≤◌, ◌⊎◌, ℕ, List, IsTrue, length, refl, arith, ap, inl, inr, true, false}
+use Rattle.std.proofs.lemmas.Bool.{false≢true}
 use Rattle.std.specs.declared.option.Option.{Option}
 use Rattle.std.specs.Io.KnownBytes.{Appends}
 use Rattle.spfc_outer.specs.Causes.{Rose}
@@ -95,11 +96,8 @@ assured_of (no_job_unsaid line is a rose b c d) told sure room = absurd (omega (
 assured_of (faulty_unsaid line is a b rose c d) told sure room = absurd (b sure)
 assured_of (no_memory is a b) told sure room = inr is
 
-no_truth : false ≡ true → ⊥
-no_truth h = cc
-
 -- a write that failed had more to write than was sure to be taken
 pub room_short : (sure : ℕ) (bytes list : List ℕ) → list ≡ bytes → (length list ≤ sure → false ≡ true) → sure < length bytes
 room_short sure bytes list is fails =
-    let no : length bytes ≤ sure → ⊥ = λ le. no_truth (fails (rw is le)) in
+    let no : length bytes ≤ sure → ⊥ = λ le. false≢true (fails (rw is le)) in
     omega arith

@@ -24,7 +24,8 @@ use Rattle.spf_model.specs.Run.{Answering}
 use Rattle.record_pack.specs.Records.{record_name, record_text}
 use Rattle.zone_writer.specs.Written.{AreChainWords, record_owner}
 use Rattle.zone_writer.proofs.Domains.{in_range, next_name}
-use Rattle.spfc_words.proofs.Domains.{domain_is_legal, text_makes_name}
+use Rattle.dns_name.proofs.Texts.{text_makes_name}
+use Rattle.spfc_words.proofs.Domains.{domain_is_legal}
 use Rattle.spfc_words.specs.Words.{has_room}
 use Rattle.spfc_top.specs.Chain.{next_spec, Holds, HoldRecords, AllHavePrefixes, RecordsAreChain}
 use Rattle.spfc_top.proofs.RecordTexts.{records_spell, records_lead_on}

@@ -2,7 +2,7 @@
 use Rattle.std.proofs.Common.{◌≡◌, ℕ, ◌+◌, ◌<◌, ◌≤◌, ◌^◌, ◌==◌, Bool, true, false, cond, IsTrue, inl, inr, List, [], ◌∷◌, ◌++◌, length, map, count_by, filter, refl, sym, ap, subst, ◌∙◌, arith, append_assoc, append-nil, Option, eqb-true}
 use Rattle.std.specs.Prelude.{codes, decimal}
 use Rattle.std.specs.List.{list_all}
-use Rattle.std.proofs.lemmas.Bool.{and_parts, le-leb}
+use Rattle.std.proofs.lemmas.Bool.{and_parts}
 use Rattle.std.proofs.lemmas.List.Folds.{list_all-append}
 use Rattle.std.proofs.lemmas.List.Sums.{length-filter}
 use Rattle.addr_bits.specs.Prefix.{Cidr, IsCidr}
@@ -15,9 +15,11 @@ use Rattle.dns_name.specs.Parts.{without_final}
 use Rattle.spf_macros.specs.declared.piece.Piece.{Piece}
 use Rattle.spf_macros.specs.declared.piece.Piece.TheVariants.{Literal}
 use Rattle.spf_macros.specs.declared.expansion.Expanded.TheVariants.{Out}
-use Rattle.spf_macros.specs.Expansion.{after_dots, cut_to_fit, expansion, first_short, fitted, followed_by, without_final_dot}
-use Rattle.spf_macros.specs.Grammar.{is_literal, is_for_all, SpellsDomainSpec, SpellsMacroText}
+use Rattle.spf_macros.specs.Expansion.{after_dots, cut_to_fit, expansion, fitted, followed_by, without_final_dot}
+use Rattle.spf_macros.specs.Grammar.{is_literal, SpellsDomainSpec}
 use Rattle.spf_macros.specs.Words.{is_domain, is_label}
+use Rattle.spf_macros.proofs.MacroTexts.{host_spells}
+use Rattle.spf_macros.proofs.TargetTexts.{short_stays}
 use Rattle.spf_grammar.specs.Families.{HasPrefix, HavePrefixes}
 use Rattle.spf_grammar.specs.Grammar.{SpellsLen, SpellsMechanism, SpellsNetwork, SpellsQualifier, SpellsTerm, SpellsTerms, is_redirect, is_exp}
 use Rattle.spf_grammar.specs.Written.{written_flat, written_len, written_net, written_qualifier}
@@ -77,21 +79,6 @@ terms_spelled (term ∷ terms) behind rest h g =
 
 -- ---- literals
 
-literals_spelled : (bs : List ℕ) → list_all is_name_byte bs ≡ true → SpellsMacroText bs (map Literal bs)
-literals_spelled bs h = each bs (name_passes is_literal refl bs h)
-  where
-    each : (bs : List ℕ) → list_all is_literal bs ≡ true → SpellsMacroText bs (map Literal bs)
-    each [] h = refl
-    each (b ∷ bs) h = let parts = and_parts (is_literal b) (list_all is_literal bs) h in (b ∷ [], bs, (parts.0, refl), each bs parts.1, refl)
-
-literals_for_all : (bs : List ℕ) → list_all is_for_all (map Literal bs) ≡ true
-literals_for_all [] = refl
-literals_for_all (b ∷ bs) = literals_for_all bs
-
-literals_append : (xs ys : List ℕ) → map Literal (xs ++ ys) ≡ map Literal xs ++ map Literal ys
-literals_append [] ys = refl
-literals_append (x ∷ xs) ys = ap (λ l. Literal x ∷ l) (literals_append xs ys)
-
 literals_expand : (family : Family) (at bs : List ℕ) → expansion family at (map Literal bs) ≡ Out bs
 literals_expand family at [] = refl
 literals_expand family at (b ∷ bs) = ap (followed_by (Out (b ∷ []))) (literals_expand family at bs)
@@ -102,17 +89,9 @@ name_front : (xs ys : List ℕ) → list_all is_name_byte (xs ++ ys) ≡ true �
 name_front xs ys h = (and_parts (list_all is_name_byte xs) (list_all is_name_byte ys) (sym (list_all-append is_name_byte xs ys) ∙ h)).0
 
 spec_spelled : (text : List ℕ) → DomainEnds text → SpellsDomainSpec false text (map Literal text)
-spec_spelled text d = record {
-  front = d.front;
-  end = 46 ∷ d.top;
-  begins = map Literal d.front;
-  ends = map Literal (46 ∷ d.top);
-  first = literals_spelled d.front (name_front d.front (46 ∷ d.top) (subst (λ t. list_all is_name_byte t ≡ true) d.whole d.bytes));
-  last = inl (d.top, [], d.toplabel, inl refl, ap (λ t. 46 ∷ t) (sym (append-nil d.top)), refl);
-  letters = literals_for_all text;
-  whole = d.whole;
-  all = ap (map Literal) d.whole ∙ literals_append d.front (46 ∷ d.top);
-}
+spec_spelled text d =
+    let bytes : list_all is_name_byte d.front ≡ true = name_front d.front (46 ∷ d.top) (subst (λ t. list_all is_name_byte t ≡ true) d.whole d.bytes) in
+    subst (λ t. SpellsDomainSpec false t (map Literal t)) (sym d.whole) (host_spells false d.front d.top (name_passes is_literal refl d.front bytes) d.toplabel)
 
 -- ---- whole records
 redirect_spelled : (domain label : List ℕ) (k : ℕ) (last : Bool) → IsTrue (is_domain domain) → IsTrue (is_label label) → k ≤ 10
@@ -162,13 +141,9 @@ same_final [] = refl
 same_final (b ∷ []) = refl
 same_final (b ∷ c ∷ text) = ap (λ (t : List ℕ). b ∷ t) (same_final (c ∷ text))
 
-short_enough : (text : List ℕ) (others : List (List ℕ)) → length text ≤ 253 → first_short text others ≡ text
-short_enough text [] h = refl
-short_enough text (next ∷ others) h = ap (λ t. cond t text (first_short next others)) (le-leb (length text) 253 h)
-
 pub records_lead_on : RecordsLeadOn
 records_lead_on domain label k family at h g few short =
     let next = record_name domain label (k + 1) in
     ap fitted (literals_expand family at next)
     ∙ ap (λ t. Out (cut_to_fit t)) (same_final next ∙ no_final_dot next (name_ends domain label k h g few))
-    ∙ ap Out (short_enough next (after_dots next) short)
+    ∙ ap Out (short_stays next (after_dots next) short)

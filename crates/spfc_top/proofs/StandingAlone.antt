@@ -89,7 +89,8 @@ length_written : (domain label : List ℕ) (name : List (List ℕ)) (k : ℕ) (l
 length_written domain label name k [] = refl
 length_written domain label name k (terms ∷ lists) = ap suc (length_written domain label name (k + 1) lists)
 
-length_pieces : (list : List FlatTerm) (from : ℕ) (ends : List ℕ) → length (pieces_from list from ends) ≡ length ends
+-- a cut has as many pieces as ends
+pub length_pieces : (list : List FlatTerm) (from : ℕ) (ends : List ℕ) → length (pieces_from list from ends) ≡ length ends
 length_pieces list from [] = refl
 length_pieces list from (to ∷ ends) = ap suc (length_pieces list to ends)
 

@@ -31,9 +31,10 @@ use Rattle.zone_writer.proofs.Fragments.{fragment_is_read}
 use Rattle.spfc_top.specs.Chain.{AllHavePrefixes, HoldRecords}
 use Rattle.spfc_top.specs.Compiled.{Wanted, AreFree, is_name_taken, IsShortest}
 use Rattle.spfc_top.specs.Standing.{HoldsName, records_of, StandAlone, Stands}
+use Rattle.zone_writer.proofs.Texts.{prefixes_piece}
 use Rattle.spfc_top.proofs.OutcomeLemmas.{some_once}
 use Rattle.spfc_top.proofs.RecordChains.{next_named, records_are_chain}
-use Rattle.spfc_top.proofs.StandingAlone.{records_stand_alone}
+use Rattle.spfc_top.proofs.StandingAlone.{length_pieces, records_stand_alone}
 use Rattle.spfc_top.proofs.StandingPatched.{records_stand_patched}
 
 -- ---- the zone that holds the domain, where each address has a verdict
@@ -71,23 +72,9 @@ holds_name zones limits domain name verdict_of named all = given_name zones limi
 
 -- ---- the pieces of a cut
 
-take_prefixes : (n : ℕ) (list : List FlatTerm) → HavePrefixes list → HavePrefixes (take n list)
-take_prefixes zero list h = tt
-take_prefixes (suc n) [] h = tt
-take_prefixes (suc n) (term ∷ list) h = (h.0, take_prefixes n list h.1)
-
-drop_prefixes : (n : ℕ) (list : List FlatTerm) → HavePrefixes list → HavePrefixes (drop n list)
-drop_prefixes zero list h = h
-drop_prefixes (suc n) [] h = tt
-drop_prefixes (suc n) (term ∷ list) h = drop_prefixes n list h.1
-
 pieces_prefixes : (list : List FlatTerm) (from : ℕ) (ends : List ℕ) → HavePrefixes list → AllHavePrefixes (pieces_from list from ends)
 pieces_prefixes list from [] h = tt
-pieces_prefixes list from (to ∷ ends) h = (take_prefixes (to - from) (drop from list) (drop_prefixes from list h), pieces_prefixes list to ends h)
-
-pieces_length : (list : List FlatTerm) (from : ℕ) (ends : List ℕ) → length (pieces_from list from ends) ≡ length ends
-pieces_length list from [] = refl
-pieces_length list from (to ∷ ends) = ap suc (pieces_length list to ends)
+pieces_prefixes list from (to ∷ ends) h = (prefixes_piece list from to h, pieces_prefixes list to ends h)
 
 drop_all : (list : List FlatTerm) → drop (length list) list ≡ []
 drop_all [] = refl
@@ -119,8 +106,8 @@ held_gives : (zones : Answering) (domain label : List ℕ) (name : Labels) (list
 held_gives zones domain label name list [] words named is prefixes cut hold = absurd (omega (arith, cut.some))
 held_gives zones domain label name list (to ∷ ends) words named is prefixes cut hold =
     chain_gives zones domain name list (pieces_from list 0 (to ∷ ends)) is
-    (records_are_chain zones domain label name (piece list 0 to) (pieces_from list to ends) words named (omega (arith, cut.few, pieces_length list to ends)) (pieces_prefixes list 0 (to ∷ ends) prefixes) hold)
-    (omega (arith, cut.few, pieces_length list 0 (to ∷ ends))) (pieces_terms list 0 (to ∷ ends) cut.rise)
+    (records_are_chain zones domain label name (piece list 0 to) (pieces_from list to ends) words named (omega (arith, cut.few, length_pieces list to ends)) (pieces_prefixes list 0 (to ∷ ends) prefixes) hold)
+    (omega (arith, cut.few, length_pieces list 0 (to ∷ ends))) (pieces_terms list 0 (to ∷ ends) cut.rise)
 
 -- the names behind the first are free
 free_owner : (want : Wanted) (zones : List Zone) (name : Labels) (records : ℕ) → AreChainWords want.domain want.label → name_of_text want.domain ≡ Ok name → records ≤ 11 → AreFree want zones records
@@ -150,7 +137,7 @@ stands want limits zones name bytes words small lasting is named no_alias best =
 }
   where
     many : length (pieces_from best.list 0 best.ends) ≡ length best.ends
-    many = pieces_length best.list 0 best.ends
+    many = length_pieces best.list 0 best.ends
 
     by_itself : StandAlone want.domain want.label name (pieces_from best.list 0 best.ends)
     by_itself = records_stand_alone want.domain want.label want.size (other_text_of zones name) best.list best.ends name small best.fits

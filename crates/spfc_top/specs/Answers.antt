@@ -1,4 +1,4 @@
--- What is computed before anything is written.
+-- What is computed before anything is written: the project's own form.
 use Rattle.std.specs.Prelude.{ℕ, ◌≡◌, ◌<◌, ◌⊎◌, List, [], ◌++◌, length, Some, None, Ok, Err, Result, map, Contains, ⊤, IsTrue, Bool}
 use Rattle.std.specs.declared.option.Option.{Option}
 use Rattle.spfc_outer.specs.Causes.{Rose}
@@ -33,6 +33,7 @@ use Rattle.spfc_top.specs.Compiled.{Wanted, wanted, verdict_at, VerdictsDue, Lis
 use Rattle.spfc_top.specs.Findings.{IsLeastRefused, PolicyDue}
 use Rattle.spfc_top.specs.Ends.{Given, IsOutput, IsFinding, IsUsage, IsReadFault, IsFindingStatus}
 
+-- what the words come to: an output, a refusal, or the line of a read fault, each as it is due
 abbrev pub IsAnswer : Given → ℕ → ℕ → Option (List ℕ) → Answer → Type 0
 IsAnswer g faults_before faults_after last_fault (Output bytes) = IsOutput g bytes
 IsAnswer g faults_before faults_after last_fault (Usage line) = IsUsage g line
@@ -128,6 +129,7 @@ IsNoFault (stop.Refusal status line) = ⊤
 IsNoFault (stop.ReadFault line) = ⊥
 IsNoFault stop.Memory = ⊤
 
+-- the answer is no read fault
 abbrev pub IsNoReadFault : Answer → Type 0
 IsNoReadFault (Output bytes) = ⊤
 IsNoReadFault (Usage line) = ⊤

@@ -54,6 +54,7 @@ HoldRecords zones domain label name k [] = Unit {0}
 HoldRecords zones domain label name k (terms ∷ lists) =
     Holds zones (record_owner name label k) (record_text domain label terms k (is_none lists)) × HoldRecords zones domain label name (k + 1) lists
 
+-- the terms of each record have prefixes of their families
 abbrev pub AllHavePrefixes : List (List FlatTerm) → Type 0
 AllHavePrefixes [] = Unit {0}
 AllHavePrefixes (terms ∷ lists) = HavePrefixes terms × AllHavePrefixes lists

@@ -1,4 +1,3 @@
--- specs/Compiled.antt
 -- What is due for verdicts: a shortest list that gives them, as the fewest records that fit.
 use Rattle.std.specs.Prelude.{ℕ, ◌≡◌, ◌<◌, ◌≤◌, Bool, false, IsTrue, IsFalse, List, length, Result, Ok, Err}
 use Rattle.addr_bits.specs.declared.address.Address.{Address}
@@ -31,6 +30,7 @@ pub record Wanted : Type 0 where
   pub ttl : ℕ
   pub label : List ℕ
 
+-- the same, from its parts
 abbrev pub wanted : (domain : List ℕ) → (size ttl : ℕ) → (label : List ℕ) → Wanted
 wanted domain size ttl label = record { domain = domain; size = size; ttl = ttl; label = label }
 
@@ -58,6 +58,7 @@ abbrev pub is_name_taken : List Zone → Result (List (List ℕ)) NameFault → 
 is_name_taken zones (Ok name) = is_taken zones name
 is_name_taken zones (Err fault) = false
 
+-- project's own choice: whether the name of record k is taken
 abbrev pub is_needed_taken : Wanted → List Zone → (k : ℕ) → Bool
 is_needed_taken want zones k = is_name_taken zones (name_of_text (needed_name want k))
 

@@ -1,5 +1,4 @@
--- specs/Due.antt
--- What is due: a refusal or an output.
+-- What is due: a refusal or an output; the project's own form.
 use Rattle.std.specs.Prelude.{ℕ, List}
 
 -- a refusal has a status above 0 and a line for the standard error; an output has the bytes for the standard output

@@ -1,5 +1,4 @@
--- specs/Ends.antt
--- How a run ends: what goes where, with which status, and why.
+-- How a run ends: what goes where, with which status, and why; the project's own form.
 use Rattle.std.specs.Prelude.{ℕ, Bool, ◌||◌, ◌≡◌, ◌≤◌, ◌⊎◌, List, [], Some, Ok, length, Contains, IsTrue, String}
 use Rattle.std.specs.declared.option.Option.{Option}
 use Rattle.std.specs.declared.alloc.Global.{Global}
@@ -18,6 +17,7 @@ pub record Given : Type 0 where
   pub told : Bool
   pub held : Contents
 
+-- the same, from the words as they were handed over
 abbrev pub given : List (String Global) → Bool → Contents → Given
 given words told held = record { words = texts words; told = told; held = held }
 
@@ -68,6 +68,7 @@ pub data WordsDue (g : Given) (due : Due) : Type 0 where
   usage : ((any : Job) → ¬ Spells g.words any) → due ≡ Refuses 4 usage_line → WordsDue g due
   job : (job : Job) → Spells g.words job → IsDue job g.held due → WordsDue g due
 
+-- the status of what is due: 0 for an output
 abbrev pub status_of : Due → ℕ
 status_of (Refuses status line) = status
 status_of (Gives bytes) = 0

@@ -27,6 +27,7 @@ abbrev pub patched_zone : (name : List (List ℕ)) → List Record → Zone → 
 patched_zone name records zone =
     record { origin = zone.origin; records = distinct_records (filter (λ r. not (is_spf_record name r)) zone.records ++ records) }
 
+-- whether the zone is the one that holds the name
 abbrev pub is_holder : Option Zone → Zone → Bool
 is_holder None zone = false
 is_holder (Some holder) zone = same_name zone.origin holder.origin
@@ -41,6 +42,7 @@ pub record StandAlone (domain label : List ℕ) (name : List (List ℕ)) (lists 
   pub lent : IsLent [] name (written_records domain label name 0 lists)
   pub hold : HoldRecords (says (with_zone [] name (written_records domain label name 0 lists))) domain label name 0 lists
 
+-- so it is for each cut that fits
 abbrev pub RecordsStandAlone : Type 0
 RecordsStandAlone = (domain label : List ℕ) (size others : ℕ) (list : List FlatTerm) (ends : List ℕ) (name : List (List ℕ))
     → size ≤ 4096 → IsFittingCut domain label size others list ends

@@ -8,7 +8,6 @@ ghost use Rattle.spfc_top.specs.Answers.{StopsBy, FaultAmong, IsNoFault};
 
 use crate::lending::lend_zones;
 use crate::stop::Stop;
-use crate::text::line;
 use addr_bits::{Address, Bytes};
 use spf_model::{Limits, check_one, write_outcome};
 use spfc_outer::Files;
@@ -51,6 +50,7 @@ fn outcome_line(
     ensures { IfOk result (λ bytes. OutcomeDue domain.now address limits zones.now (Gives bytes)) }
 {
     let outcome = check_one(alloc, zones, limits, address, domain)?;
-    let words = write_outcome(alloc, &outcome)?;
-    line(alloc, "", words.as_slice())
+    let mut line = write_outcome(alloc, &outcome)?;
+    line.push(b'\n')?;
+    Ok(line)
 }

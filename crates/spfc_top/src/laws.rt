@@ -1,4 +1,4 @@
-//! What holds of all that can be due.
+//! Laws of what can be due, and of the records of a chain.
 ghost use Rattle.spfc_top.specs.Chain.{RecordsAreChain, RecordsSpell, RecordsLeadOn};
 ghost use Rattle.spfc_top.specs.Standing.{RecordsStandAlone, RecordsStandPatched};
 ghost use Rattle.spfc_top.specs.Ends.{OneIsDue};

@@ -1,5 +1,5 @@
 //! Lending the zones of the zone words.
-ghost use Rattle.std.specs.Prelude.{◌≡◌, ◌≤◌, [], Ok, IsTrue, OnOk, OnErr, IfOk, IfErr};
+ghost use Rattle.std.specs.Prelude.{◌≤◌, [], Ok, IsTrue, OnOk, IfOk, IfErr};
 ghost use Rattle.zone_answers.specs.Lend.{AreLendable};
 ghost use Rattle.spfc_top.specs.Zones.{LendDue, ZoneWordsDue};
 ghost use Rattle.spfc_top.specs.Answers.{StopsBy, RefusedBy, FaultAmong, IsNoFault, IsStopOf};

@@ -1,3 +1,5 @@
+ghost use Rattle.std.specs.Prelude.{◌≤◌};
+
 use super::*;
 use addr_bits::Bytes;
 use spfc_outer::{Calls, FileList, MemFiles, MemSink};
@@ -20,22 +22,30 @@ fn calls(alloc: Global, numbers: &[u64]) -> Result<Calls, AllocError> {
 // A file's name and its contents.
 type File<'a> = (&'a [u8], &'a [u8]);
 
-// Files, and calls that fail. A read takes at most 16 bytes.
-fn mem_files(alloc: Global, files: &[File<'_>], fails: &[u64]) -> Result<MemFiles, AllocError> {
+// Files, and calls that fail. A read takes at most `most` bytes.
+fn mem_files(
+    alloc: Global,
+    files: &[File<'_>],
+    most: usize,
+    fails: &[u64],
+) -> Result<MemFiles, AllocError>
+    requires { 1 ≤ most }
+{
     let mut list = FileList::new(alloc);
     for (name, contents) in files {
         list.push((bytes(alloc, name)?, bytes(alloc, contents)?))?;
     }
-    Ok(MemFiles::new(list, 16, calls(alloc, fails)?))
+    Ok(MemFiles::new(list, most, calls(alloc, fails)?))
 }
 
+// A file whose reads take at most 16 bytes.
 fn one_file(
     alloc: Global,
     name: &[u8],
     contents: &[u8],
     fails: &[u64],
 ) -> Result<MemFiles, AllocError> {
-    mem_files(alloc, &[(name, contents)], fails)
+    mem_files(alloc, &[(name, contents)], 16, fails)
 }
 
 // A sink with calls that fail. A write takes at most 10 bytes.
@@ -53,7 +63,8 @@ fn words(alloc: Global, texts: &[&str]) -> Result<Vec<String>, AllocError> {
 
 const WORDS: [&str; 3] = ["compile", "example.com", "example.com=z"];
 
-const ROW_1: &[u8] = b"@ IN TXT \"v=spf1 ip4:192.0.2.0/25 ip4:192.0.2.128/25 -all\"\n";
+// A network in two halves.
+const TWO_HALVES: &[u8] = b"@ IN TXT \"v=spf1 ip4:192.0.2.0/25 ip4:192.0.2.128/25 -all\"\n";
 
 // Options and a file, and the output whole, or what it begins and ends with.
 struct Output<'a> {
@@ -76,10 +87,19 @@ const TAKEN: &[u8] =
 const TAKEN_BELOW: &[u8] =
     b"@ TXT \"v=spf1 ip4:10.0.0.0/8 ip4:192.0.2.0/24 -all\"\n@ TXT \"verify=0123456789\"\na.b._spf1 A 192.0.2.1\n";
 
+// Entries that go on over several lines.
+const IN_PARENS: Output<'static> = Output {
+    options: &[],
+    file: b"@ 3600 IN SOA ns.example.com. admin.example.com. ( 1 7200 ; serial\n  900 1209600\n  300 ) ; end\n@ IN TXT ( \"v=spf1 ip4:192.0.\"  ; first part\n  \"2.0/24\"\n  \" -all\" )\n",
+    begins: b"$ORIGIN example.com.\n$TTL 3600\n@ IN TXT \"v=spf1 ip4:192.0.2.0/24 -all\"\n; row ",
+    ends: b"; fewest 2\n",
+    len: 718,
+};
+
 const OUTPUTS: [Output<'static>; 11] = [
     Output {
         options: &[],
-        file: ROW_1,
+        file: TWO_HALVES,
         begins: b"$ORIGIN example.com.\n$TTL 3600\n@ IN TXT \"v=spf1 ip4:192.0.2.0/24 -all\"\n; row 0.0.0.0/0 1 2 2 2\n",
         ends: b"; row 192.0.0.0/22 1 2 2 2\n; row 192.0.2.0/23 1 2 1 2\n; fewest 2\n",
         len: 718,
@@ -112,13 +132,7 @@ const OUTPUTS: [Output<'static>; 11] = [
         ends: b"; fewest 3\n",
         len: 0,
     },
-    Output {
-        options: &[],
-        file: b"@ 3600 IN SOA ns.example.com. admin.example.com. ( 1 7200 ; serial\n  900 1209600\n  300 ) ; end\n@ IN TXT ( \"v=spf1 ip4:192.0.\"  ; first part\n  \"2.0/24\"\n  \" -all\" )\n",
-        begins: b"$ORIGIN example.com.\n$TTL 3600\n@ IN TXT \"v=spf1 ip4:192.0.2.0/24 -all\"\n; row ",
-        ends: b"; fewest 2\n",
-        len: 718,
-    },
+    IN_PARENS,
     Output {
         options: &[],
         file: b"@ TXT \"v=spf1 ?all\"\n@ TXT \"verify=0123456789\"\n@ TXT \"v=spf1 ?all\"\n",
@@ -156,8 +170,12 @@ const OUTPUTS: [Output<'static>; 11] = [
     },
 ];
 
-fn try_output(rt: &impl Abort, alloc: Global, case: &Output<'_>) -> Result<(), Fail> {
-    let mut files = one_file(alloc, b"z", case.file, &[])?;
+// A read of the file takes at most `most` bytes.
+fn try_output(rt: &impl Abort, alloc: Global, case: &Output<'_>, most: usize) -> Result<(), Fail>
+    requires { 1 ≤ most }
+{
+    let zone: [File<'_>; 1] = [(b"z", case.file)];
+    let mut files = mem_files(alloc, &zone, most, &[])?;
     let mut out = sink(alloc, &[])?;
     let mut err = sink(alloc, &[])?;
     let mut words = words(alloc, &["compile", "example.com"])?;
@@ -175,8 +193,14 @@ fn try_output(rt: &impl Abort, alloc: Global, case: &Output<'_>) -> Result<(), F
 #[test]
 fn a_shortest_list_is_written(rt: HostRuntime) -> Result<(), Fail> {
     for case in &OUTPUTS {
-        try_output(&rt, rt.alloc(), case)?;
+        try_output(&rt, rt.alloc(), case, 16)?;
     }
+    one_is_due();
+    records_spell();
+    records_lead_on();
+    records_are_chain();
+    records_stand_alone();
+    records_stand_patched();
     Ok(())
 }
 
@@ -191,6 +215,17 @@ struct Refusal<'a> {
 const TWO_ZONES: [&str; 4] = ["compile", "Example.com", "example.com=z", "NET.=y"];
 
 const SMALL: [&str; 5] = ["compile", "example.com", "--size", "64", "example.com=z"];
+
+// A text whose quote is not closed.
+const OPEN_QUOTE: Refusal<'static> = Refusal {
+    words: &WORDS,
+    files: &[(
+        b"z",
+        b"$ORIGIN example.com.\n$TTL 1h\n@ IN A 192.0.2.1\n@ IN TXT \"v=spf1 -all\nwww IN A 192.0.2.2\n",
+    )],
+    status: 3,
+    line: b"bad zone z 4 OpenQuote\n",
+};
 
 const REFUSALS: [Refusal<'static>; 14] = [
     Refusal {
@@ -238,22 +273,14 @@ const REFUSALS: [Refusal<'static>; 14] = [
     },
     Refusal {
         words: &WORDS,
-        files: &[(b"y", ROW_1)],
+        files: &[(b"y", TWO_HALVES)],
         status: 3,
         line: b"no file z\n",
     },
-    Refusal {
-        words: &WORDS,
-        files: &[(
-            b"z",
-            b"$ORIGIN example.com.\n$TTL 1h\n@ IN A 192.0.2.1\n@ IN TXT \"v=spf1 -all\nwww IN A 192.0.2.2\n",
-        )],
-        status: 3,
-        line: b"bad zone z 4 OpenQuote\n",
-    },
+    OPEN_QUOTE,
     Refusal {
         words: &TWO_ZONES,
-        files: &[(b"z", ROW_1), (b"y", b"a A 192.0.2.1\nb A ( 1.2.3\n")],
+        files: &[(b"z", TWO_HALVES), (b"y", b"a A 192.0.2.1\nb A ( 1.2.3\n")],
         status: 3,
         line: b"bad zone y 2 OpenParen\n",
     },
@@ -268,38 +295,41 @@ const REFUSALS: [Refusal<'static>; 14] = [
     },
     Refusal {
         words: &TWO_ZONES,
-        files: &[(b"z", ROW_1)],
+        files: &[(b"z", TWO_HALVES)],
         status: 3,
         line: b"no file y\n",
     },
     Refusal {
         words: &["compile", "example", "example=z"],
-        files: &[(b"z", ROW_1)],
+        files: &[(b"z", TWO_HALVES)],
         status: 4,
         line: b"usage\n",
     },
     Refusal {
         words: &["compile", "example", "example.com=z"],
-        files: &[(b"z", ROW_1)],
+        files: &[(b"z", TWO_HALVES)],
         status: 4,
         line: b"usage\n",
     },
     Refusal {
         words: &["compile", "example.com", "--size", "63", "example.com=z"],
-        files: &[(b"z", ROW_1)],
+        files: &[(b"z", TWO_HALVES)],
         status: 4,
         line: b"usage\n",
     },
     Refusal {
         words: &["compile", "example.com", "example.com=z", "EXAMPLE.com=y"],
-        files: &[(b"z", ROW_1)],
+        files: &[(b"z", TWO_HALVES)],
         status: 4,
         line: b"usage\n",
     },
 ];
 
-fn try_refusal(rt: &impl Abort, alloc: Global, case: &Refusal<'_>) -> Result<(), Fail> {
-    let mut files = mem_files(alloc, case.files, &[])?;
+// A read of a file takes at most `most` bytes.
+fn try_refusal(rt: &impl Abort, alloc: Global, case: &Refusal<'_>, most: usize) -> Result<(), Fail>
+    requires { 1 ≤ most }
+{
+    let mut files = mem_files(alloc, case.files, most, &[])?;
     let mut out = sink(alloc, &[])?;
     let mut err = sink(alloc, &[])?;
     let words = words(alloc, case.words)?;
@@ -315,9 +345,18 @@ fn try_refusal(rt: &impl Abort, alloc: Global, case: &Refusal<'_>) -> Result<(),
 #[test]
 fn what_has_no_output_is_refused(rt: HostRuntime) -> Result<(), Fail> {
     for case in &REFUSALS {
-        try_refusal(&rt, rt.alloc(), case)?;
+        try_refusal(&rt, rt.alloc(), case, 16)?;
     }
     Ok(())
+}
+
+// Files that hand out a few bytes at a time.
+#[test]
+fn files_in_pieces(rt: HostRuntime) -> Result<(), Fail> {
+    try_output(&rt, rt.alloc(), &IN_PARENS, 1)?;
+    try_output(&rt, rt.alloc(), &IN_PARENS, 7)?;
+    try_refusal(&rt, rt.alloc(), &OPEN_QUOTE, 1)?;
+    try_refusal(&rt, rt.alloc(), &OPEN_QUOTE, 7)
 }
 
 // Options and the zone of example.com, and the status and what is written first: the fragment, or the line of the refusal.
@@ -506,17 +545,17 @@ struct Outcome<'a> {
 const OUTCOMES: [Outcome<'static>; 8] = [
     Outcome {
         words: &["192.0.2.7", "example.com=z"],
-        file: ROW_1,
+        file: TWO_HALVES,
         line: b"pass\n",
     },
     Outcome {
         words: &["::1", "example.com=z"],
-        file: ROW_1,
+        file: TWO_HALVES,
         line: b"fail\n",
     },
     Outcome {
         words: &["::ffff:192.0.2.7", "example.com=z"],
-        file: ROW_1,
+        file: TWO_HALVES,
         line: b"fail\n",
     },
     Outcome {
@@ -536,12 +575,12 @@ const OUTCOMES: [Outcome<'static>; 8] = [
     },
     Outcome {
         words: &["192.0.2.1", "example.com=z"],
-        file: b"@ TXT \"v=spf1 a:h1.example.com a:h2.example.com a:h3.example.com -all\"\n",
+        file: THREE_VOIDS,
         line: b"permerror voids example.com 3\n",
     },
     Outcome {
         words: &["192.0.2.1", "--voids", "3", "example.com=z"],
-        file: b"@ TXT \"v=spf1 a:h1.example.com a:h2.example.com a:h3.example.com -all\"\n",
+        file: THREE_VOIDS,
         line: b"fail\n",
     },
 ];
@@ -573,22 +612,22 @@ fn outcomes_of_one_address(rt: HostRuntime) -> Result<(), Fail> {
 fn faults_are_told(rt: HostRuntime) -> Result<(), Fail> {
     let alloc = rt.alloc();
     let words = words(alloc, &WORDS)?;
-    let mut files = one_file(alloc, b"z", ROW_1, &[3])?;
+    let mut files = one_file(alloc, b"z", TWO_HALVES, &[3])?;
     let mut out = sink(alloc, &[])?;
     let mut err = sink(alloc, &[])?;
     assert_eq!(rt; run(alloc, &words, &mut files, &mut out, &mut err), 5);
     assert_eq!(rt; err.bytes(), b"read fault z\n".as_slice());
 
     let names: [&str; 4] = ["compile", "example.com", "example.com=z", "net=y"];
-    let zones: [File<'_>; 2] = [(b"z", ROW_1), (b"y", ROW_1)];
-    let mut files = mem_files(alloc, &zones, &[10])?;
+    let zones: [File<'_>; 2] = [(b"z", TWO_HALVES), (b"y", TWO_HALVES)];
+    let mut files = mem_files(alloc, &zones, 16, &[10])?;
     let mut out = sink(alloc, &[])?;
     let mut err = sink(alloc, &[])?;
     let two = self::words(alloc, &names)?;
     assert_eq!(rt; run(alloc, &two, &mut files, &mut out, &mut err), 5);
     assert_eq!(rt; err.bytes(), b"read fault y\n".as_slice());
 
-    let mut files = one_file(alloc, b"z", ROW_1, &[])?;
+    let mut files = one_file(alloc, b"z", TWO_HALVES, &[])?;
     let mut out = sink(alloc, &[2])?;
     let mut err = sink(alloc, &[])?;
     assert_eq!(rt; run(alloc, &words, &mut files, &mut out, &mut err), 6);

@@ -1,4 +1,4 @@
-//! Lines for the standard error.
+//! Lines that are printed.
 ghost use Rattle.std.specs.Prelude.{◌≡◌, ◌++◌, ◌∷◌, IfOk, OnOk};
 ghost use Rattle.spfc_top.specs.Lines.{line_of, kind_word, bad_zone_line, too_many_line, alias_and_other_line, address_text, refused_line, taken_line};
 

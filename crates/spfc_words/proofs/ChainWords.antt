@@ -14,7 +14,7 @@ use Rattle.spf_model.specs.declared.outcome.Limits.{Limits}
 use Rattle.spfc_words.specs.declared.zone_word.ZoneWord.{ZoneWord}
 use Rattle.spfc_words.specs.Options.{IsNumber, IsOption, IsLabelText, settings_in, values_of, is_compile_option}
 use Rattle.spfc_words.specs.Words.{IsCompiled}
-use Rattle.spfc_words.proofs.Domains.{test_lower, byte_lower, split_lower}
+use Rattle.dns_name.proofs.Texts.{byte_lower, split_lower, test_lower}
 
 -- ---- tests of a text in lower case
 -- a test that each letter passes

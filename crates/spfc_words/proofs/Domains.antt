@@ -1,20 +1,12 @@
 -- A domain, taken in lower case, is a legal name.
-use Rattle.std.proofs.Common.{◌≡◌, ℕ, ◌+◌, ◌≤◌, ◌==◌, Bool, true, false, cond, nat_lt, IsTrue, IsOk, List, [], ◌∷◌, length, map, bytes_eq, Ok, Err, None, inl, inr, refl, sym, ap, subst, ◌∙◌, arith, le-ltb, ne_eqb}
-use Rattle.std.specs.List.{list_all, slice_split, onto_first}
-use Rattle.std.specs.Char.{is_ascii_alphabetic, to_ascii_lowercase}
-use Rattle.std.specs.Int.{is_in_range}
-use Rattle.std.specs.Prelude.{nat_le}
+use Rattle.std.proofs.Common.{◌≡◌, ℕ, ◌≤◌, true, IsTrue, IsOk, List, [], ◌∷◌, length, map, None, refl, ap, ◌∙◌, arith}
+use Rattle.std.specs.List.{list_all, slice_split}
 use Rattle.std.specs.Str.{str_to_ascii_lowercase}
-use Rattle.std.proofs.lemmas.Bool.{and_parts, and_from, or_left, or_right, leb-true, le-leb, cases_lt, true≢false}
-use Rattle.std.proofs.lemmas.Str.Ascii.{lowercase_is}
-use Rattle.std.proofs.lemmas.Slice.Eq.{bytes_eq-Decides}
+use Rattle.std.proofs.lemmas.Bool.{and_parts, leb-true}
 use Rattle.std.proofs.lemmas.List.{length-map}
-use Rattle.std.proofs.lemmas.List.Splits.{slice_split-cons_yes, slice_split-cons_no}
-use Rattle.dns_name.specs.declared.fault.NameFault.TheVariants.{NameLong}
-use Rattle.dns_name.specs.Parts.{without_final}
-use Rattle.dns_name.specs.Wire.{wire_form}
-use Rattle.dns_name.specs.Name.{IsLabel, lowercase_label, label_fault, earlier_fault, first_fault, fault_or, name_of_labels, name_of_text, is_dot}
-use Rattle.dns_name.proofs.Names.{parts_of, no_fault_from_label}
+use Rattle.dns_name.specs.Name.{IsLabel, lowercase_label, earlier_fault, first_fault, name_of_text, is_dot}
+use Rattle.dns_name.proofs.Names.{no_fault_from_label}
+use Rattle.dns_name.proofs.Texts.{legal_text, split_lower}
 use Rattle.spf_macros.specs.Words.{is_domain, is_domain_label}
 
 -- ---- labels

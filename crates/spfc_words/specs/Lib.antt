@@ -1,3 +1,2 @@
--- specs/Lib.antt
 pub mod Options
 pub mod Words

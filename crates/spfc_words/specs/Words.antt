@@ -19,10 +19,11 @@ use Rattle.spfc_words.specs.declared.zone_word.ZoneWord.{ZoneWord}
 abbrev pub texts : List (String Global) → List (List ℕ)
 texts words = map string_bytes words
 
--- a zone word is an origin, `=` (61) and the name of a file, which may have a `=` too
+-- a zone word is an origin, `=` (61) and the name of a file, which may have a `=` too: its origin
 abbrev pub origin_in : List ℕ → List ℕ
 origin_in word = before_first (λ b. b == 61) word
 
+-- and its file
 abbrev pub file_in : List ℕ → List ℕ
 file_in word = after_first (λ b. b == 61) word
 
@@ -74,10 +75,12 @@ pub record IsChecked (word address_word : List ℕ) (words : List (List ℕ)) (d
   pub reading : AreLimits (settings_in is_reading_option words) limits
   pub behind : AreZoneWords (words_behind is_reading_option words) zones
 
+-- the words behind `compile`
 abbrev pub SpellsCompile : List (List ℕ) → (domain : List ℕ) → Limits → (size ttl : ℕ) → (label : List ℕ) → (zones : List ZoneWord) → Type 0
 SpellsCompile [] domain limits size ttl label zones = ⊥
 SpellsCompile (word ∷ words) domain limits size ttl label zones = IsCompiled word words domain limits size ttl label zones
 
+-- the words behind `check`
 abbrev pub SpellsCheck : List (List ℕ) → (domain : List ℕ) → Address → Limits → (zones : List ZoneWord) → Type 0
 SpellsCheck [] domain address limits zones = ⊥
 SpellsCheck (word ∷ []) domain address limits zones = ⊥

@@ -342,6 +342,8 @@ fn words_that_give_none(rt: HostRuntime) -> Result<(), Fail> {
         let job = read_words(rt.alloc(), &words(rt.alloc(), texts)?)?;
         assert!(rt; job.is_none());
     }
+    one_job();
+    domains_are_names();
     Ok(())
 }
 
