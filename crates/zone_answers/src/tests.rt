@@ -29,7 +29,7 @@ fn text_of(alloc: Global, string: &str) -> Result<Text, AllocError> {
 /// The body of the type with the data.
 fn body_of(alloc: Global, rt: &impl Abort, kind: &str, content: &str) -> Result<Body, AllocError> {
     Ok(match kind {
-        "A" => Body::A(3221225985),
+        "A" => Body::A(0xc000_0201),
         "MX" => Body::Mx(10, name_of(rt, content)),
         "TXT" => Body::Txt(text_of(alloc, content)?),
         "CNAME" => Body::Cname(name_of(rt, content)),
@@ -271,7 +271,7 @@ fn bodies_of_answers(rt: HostRuntime) -> Result<(), Fail> {
     let lent = lend_lines(rt.alloc(), &rt, &mut zones, "example", SAMPLE)?;
     assert!(rt; lent.is_ok());
     let found = zones.answer(&name_of(&rt, "host1.example"), QKind::A)?;
-    assert!(rt; matches!(found.bodies(), [Body::A(3221225985)]));
+    assert!(rt; matches!(found.bodies(), [Body::A(0xc000_0201)]));
     let none = zones.answer(&name_of(&rt, "host1.example"), QKind::Mx)?;
     assert!(rt; none.bodies().is_empty());
     Ok(())
