@@ -24,11 +24,6 @@ octets-take m n xs le =
     octets-parts m (take n xs) ∙ ap (λ (ts : List FlatTerm). octets ts + octets (drop m (take n xs))) (take-take m n xs le) in
     omega (arith, parts)
 
-pub octets-more : (xs : List FlatTerm) (i : ℕ) (x : FlatTerm) → i < length xs → x ≡ get_or xs i x → octets (take (i + 1) xs) ≡ octets (take i xs) + (1 + length (written_flat x))
-octets-more xs i x lt at =
-    let one : octets (get_or xs i x ∷ []) ≡ 1 + length (written_flat x) = ap (λ (t : FlatTerm). octets (t ∷ [])) (sym at) ∙ grind (arith, length-append) in
-    ap octets (take_more xs i x lt) ∙ octets-append (take i xs) (get_or xs i x ∷ []) ∙ ap (λ (n : ℕ). octets (take i xs) + n) one
-
 -- a piece that begins later takes no more
 pub piece-later : (list : List FlatTerm) (from later to : ℕ) → from ≤ later → later ≤ to → octets (piece list later to) ≤ octets (piece list from to)
 piece-later list from later to begins ends =
@@ -41,10 +36,6 @@ piece-later list from later to begins ends =
     let parts : octets (piece list from to) ≡ octets (take n (piece list from to)) + octets (piece list later to) =
     octets-parts n (piece list from to) ∙ ap (λ (ts : List FlatTerm). octets (take n (piece list from to)) + octets ts) behind in
     omega (arith, parts)
-
--- a piece that ends earlier takes no more
-pub piece-earlier : (list : List FlatTerm) (from to more : ℕ) → to ≤ more → octets (piece list from to) ≤ octets (piece list from more)
-piece-earlier list from to more le = octets-take (to - from) (more - from) (drop from list) (omega (arith, le))
 
 -- what a record takes is what it takes without a term, and its terms
 pub size-terms : (domain label : List ℕ) (others : ℕ) (terms : List FlatTerm) (k : ℕ) (last : Bool)

@@ -6,10 +6,10 @@ use itoa::Buffer;
 use spf_grammar::{FlatTerm, write_flat};
 
 /// The octets of `v=spf1`.
-const VERSION_LEN: u64 = 6;
+const VERSION_LEN: u64 = b"v=spf1".len() as u64;
 
 /// The octets of ` redirect=`.
-const REDIRECT_LEN: u64 = 10;
+const REDIRECT_LEN: u64 = b" redirect=".len() as u64;
 
 /// The octets of a record's name, held at the last value of the type: the domain for record 0, and the label, the
 /// number, a dot and the domain for another.

@@ -1,5 +1,5 @@
 //! The cut with the fewest records.
-ghost use Rattle.std.specs.Prelude.{List, ℕ, length, IfOk, IsErrOf};
+ghost use Rattle.std.specs.Prelude.{List, ℕ, IfOk, IsErrOf};
 ghost use Rattle.record_pack.specs.declared.fault.PackFault.TheVariants.{TooBig};
 ghost use Rattle.record_pack.specs.Records.{IsFittingCut, TakeMost, HasFewest};
 

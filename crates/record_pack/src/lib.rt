@@ -5,6 +5,7 @@ mod cut;
 mod fault;
 mod fit;
 mod greedy;
+mod name;
 #[cfg(test)]
 mod tests;
 
@@ -12,3 +13,4 @@ pub use cut::{Cut, Ends};
 pub use fault::PackFault;
 pub use fit::fits;
 pub use greedy::pack;
+pub use name::push_name;

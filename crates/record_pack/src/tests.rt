@@ -1,8 +1,8 @@
 //! Records that fit, and cuts.
 ghost use Rattle.std.specs.Prelude.{◌≤◌};
 
-use crate::{Cut, PackFault, fits, pack};
-use addr_bits::{Items, Prefix};
+use crate::{Cut, PackFault, fits, pack, push_name};
+use addr_bits::{Bytes, Items, Prefix};
 use spf_grammar::{FlatTerm, Net, Verdict};
 use std::alloc::{AllocError, Global};
 use std::process::Abort;
@@ -24,6 +24,15 @@ fn list() -> [FlatTerm; 3] {
             net: Net::All,
         },
     ]
+}
+
+#[test]
+fn names_of_records(rt: HostRuntime) -> Result<(), Fail> {
+    let mut text = Bytes::new(rt.alloc());
+    text.push(b' ')?;
+    push_name(&mut text, b"example.com", b"_spf", 10)?;
+    assert_eq!(rt; text.as_slice(), b" _spf10.example.com".as_slice());
+    Ok(())
 }
 
 #[test]

@@ -1,19 +1,18 @@
 -- The bytes of domains, labels and numbers, and the labels of a domain.
-use Rattle.std.proofs.Common.{◌≡◌, ℕ, ◌+◌, ◌-◌, ◌<◌, ◌≤◌, ◌^◌, ◌==◌, Bool, true, false, not, cond, ◌&&◌, ◌||◌, IsTrue, ◌⊎◌, inl, inr, List, [], ◌∷◌, ◌++◌, length, map, nat_lt, refl, sym, ap, subst, ◌∙◌, arith, append_assoc, true≢false, ne_eqb, eqb-true}
+use Rattle.std.proofs.Common.{◌≡◌, ℕ, ◌+◌, ◌-◌, ◌<◌, ◌≤◌, ◌^◌, ◌==◌, Bool, true, false, not, cond, ◌&&◌, ◌||◌, IsTrue, ◌⊎◌, inl, inr, List, [], ◌∷◌, ◌++◌, length, nat_lt, refl, sym, ap, subst, ◌∙◌, arith, append_assoc, true≢false, ne_eqb, eqb-true}
 use Rattle.std.specs.Prelude.{decimal, nat_le, slice_index}
 use Rattle.std.specs.List.{list_all, list_any, slice_split, onto_first}
-use Rattle.std.specs.Char.{is_ascii_alphabetic, is_ascii_digit, to_ascii_lowercase}
+use Rattle.std.specs.Char.{is_ascii_alphabetic, is_ascii_digit}
 use Rattle.std.specs.Int.{is_in_range}
 use Rattle.std.specs.Str.{str_to_ascii_lowercase}
-use Rattle.std.proofs.lemmas.Bool.{agree_below, agree_below_at, and_parts, and_from, cond-true, or_cases, or_left, or_right, leb-true, lt-ltb, ltb-false}
+use Rattle.std.proofs.lemmas.Bool.{agree_below, agree_below_at, and_parts, and_from, cond-true, or_cases, or_left, or_right, leb-true, lt-ltb}
 use Rattle.std.proofs.lemmas.List.Splits.{slice_split-cons_yes, slice_split-cons_no}
 use Rattle.spf_macros.specs.Grammar.{is_let_dig_hyp, is_toplabel}
 use Rattle.spf_macros.specs.Words.{is_domain, is_domain_label, is_label, is_word_byte, last_label}
 use Rattle.spf_grammar.proofs.Numbers.{decimal_ascii}
 use Rattle.spf_grammar.proofs.OneTail.{all_both, weaker}
-use Rattle.dns_name.specs.Name.{is_dot, lowercase_label}
+use Rattle.dns_name.specs.Name.{is_dot}
 use Rattle.dns_name.specs.Parts.{without_final}
-use Rattle.dns_name.specs.Wire.{wire_form}
 use Rattle.record_pack.specs.Records.{record_name}
 
 -- ---- bytes

@@ -23,7 +23,8 @@ use Rattle.master_reader.proofs.Labels.{ends_so-last}
 use Rattle.master_reader.proofs.Spelling.{bytes_differ}
 use Rattle.record_pack.specs.Records.{record_name}
 use Rattle.zone_writer.specs.Written.{AreChainWords}
-use Rattle.zone_writer.proofs.Domains.{DomainEnds, decimal_lower, domain_ends, label_parts, next_name, no_dots, no_final_dot, owner_words, split_lower, wire_length}
+use Rattle.zone_writer.proofs.Domains.{DomainEnds, decimal_lower, domain_ends, label_parts, next_name, no_dots, no_final_dot, owner_words}
+use Rattle.dns_name.proofs.Texts.{split_lower, wire_length}
 use Rattle.zone_writer.proofs.Lines.{plain_token, units_of}
 
 -- ---- the name of a word without escapes

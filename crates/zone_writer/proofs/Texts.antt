@@ -86,12 +86,13 @@ text_bytes domain label terms k last h g few prefixes =
 
 -- ---- pieces
 
-prefixes_take : (n : ℕ) (terms : List FlatTerm) → HavePrefixes terms → HavePrefixes (take n terms)
+-- what some terms have, a part of them has
+pub prefixes_take : (n : ℕ) (terms : List FlatTerm) → HavePrefixes terms → HavePrefixes (take n terms)
 prefixes_take zero terms h = tt
 prefixes_take (suc n) [] h = tt
 prefixes_take (suc n) (term ∷ terms) h = (h.0, prefixes_take n terms h.1)
 
-prefixes_drop : (n : ℕ) (terms : List FlatTerm) → HavePrefixes terms → HavePrefixes (drop n terms)
+pub prefixes_drop : (n : ℕ) (terms : List FlatTerm) → HavePrefixes terms → HavePrefixes (drop n terms)
 prefixes_drop zero terms h = h
 prefixes_drop (suc n) [] h = tt
 prefixes_drop (suc n) (term ∷ terms) h = prefixes_drop n terms h.1

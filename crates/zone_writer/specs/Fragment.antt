@@ -12,6 +12,7 @@ strings_within zero text = text ∷ []
 strings_within (suc n) text =
     if nat_lt 255 (length text) then take 255 text ∷ strings_within n (drop 255 text) else text ∷ []
 
+-- RFC 1035, section 3.3.14: a text as its character strings; it has no more full ones than octets
 abbrev pub strings_of : List ℕ → List (List ℕ)
 strings_of text = strings_within (length text) text
 
@@ -27,6 +28,7 @@ owner_text label k = if k == 0 then codes "@" else label ++ decimal k
 abbrev pub record_line : (owner text : List ℕ) → List ℕ
 record_line owner text = owner ++ codes " IN TXT" ++ flat_map quoted (strings_of text) ++ 10 ∷ []
 
+-- project's own form: whether no piece is left
 abbrev pub is_none : List (List FlatTerm) → Bool
 is_none [] = true
 is_none (piece ∷ pieces) = false

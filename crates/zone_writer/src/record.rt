@@ -1,16 +1,14 @@
 //! Writing one record of a chain.
-ghost use Rattle.std.specs.Prelude.{◌≡◌, ℕ, ◌+◌, ◌<◌, ◌==◌, ◌++◌, ◌∷◌, [], codes, decimal, flat_map, IfOk, OnOk};
-ghost use Rattle.spf_grammar.specs.Written.{written_flat};
-ghost use Rattle.record_pack.specs.Records.{record_name, record_text, redirect_text, terms_text};
+ghost use Rattle.std.specs.Prelude.{◌≡◌, ◌<◌, ◌++◌, codes, flat_map, IfOk, OnOk};
+ghost use Rattle.record_pack.specs.Records.{record_name, record_text, terms_text};
 ghost use Rattle.zone_writer.specs.Fragment.{owner_text, quoted, record_line, strings_of};
 
 use addr_bits::Bytes;
 use itoa::Buffer;
+use master_reader::MAX_STRING;
+use record_pack::push_name;
 use spf_grammar::{FlatTerm, write_flat};
 use std::alloc::{AllocError, Global};
-
-/// The greatest number of octets of a character string (RFC 1035, section 3.3).
-const STRING_LEN: usize = 255;
 
 /// The version section and the terms of a record.
 fn write_terms(alloc: Global, terms: &[FlatTerm]) -> Result<Bytes, AllocError>
@@ -25,14 +23,6 @@ fn write_terms(alloc: Global, terms: &[FlatTerm]) -> Result<Bytes, AllocError>
     Ok(text)
 }
 
-/// Appends the label and the number of a record.
-fn push_label(text: &mut Bytes, label: &[u8], index: u64) -> Result<(), AllocError>
-    ensures { OnOk result (text.new ≡ text.old ++ (label.now ++ decimal index)) }
-{
-    text.extend_from_slice(label)?;
-    text.extend_from_slice(Buffer::new().format(index).as_bytes())
-}
-
 /// Appends the modifier that sends the reader on to the record of this number, which is not 0.
 fn push_redirect(
     text: &mut Bytes,
@@ -44,9 +34,7 @@ fn push_redirect(
     ensures { OnOk result (text.new ≡ text.old ++ (codes " redirect=" ++ record_name domain.now label.now index)) }
 {
     text.extend_from_slice(b" redirect=")?;
-    push_label(text, label, index)?;
-    text.push(b'.')?;
-    text.extend_from_slice(domain)
+    push_name(text, domain, label, index)
 }
 
 /// The text of a record.
@@ -82,8 +70,8 @@ fn push_strings(zone: &mut Bytes, text: &[u8]) -> Result<(), AllocError>
     ensures { OnOk result (zone.new ≡ zone.old ++ flat_map quoted (strings_of text.now)) }
 {
     let mut rest = text;
-    while rest.len() > STRING_LEN {
-        let (string, behind) = rest.split_at(STRING_LEN);
+    while rest.len() > MAX_STRING {
+        let (string, behind) = rest.split_at(MAX_STRING);
         push_string(zone, string)?;
         rest = behind;
     }
@@ -95,10 +83,10 @@ fn push_owner(zone: &mut Bytes, label: &[u8], index: u64) -> Result<(), AllocErr
     ensures { OnOk result (zone.new ≡ zone.old ++ owner_text label.now index) }
 {
     if index == 0 {
-        zone.push(b'@')
-    } else {
-        push_label(zone, label, index)
+        return zone.push(b'@');
     }
+    zone.extend_from_slice(label)?;
+    zone.extend_from_slice(Buffer::new().format(index).as_bytes())
 }
 
 /// Appends the line of a record.

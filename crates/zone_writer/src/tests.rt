@@ -1,5 +1,5 @@
 //! Fragments.
-use crate::fragment;
+use crate::{fragment, fragment_is_read};
 use addr_bits::Prefix;
 use fewest_terms::{FlatList, Rows, Shortest};
 use record_pack::{Cut, Ends};
@@ -60,4 +60,9 @@ fn strings_of_255_octets(rt: HostRuntime) -> Result<(), Fail> {
         Some(between)
     );
     Ok(())
+}
+
+#[test]
+fn laws() {
+    fragment_is_read();
 }

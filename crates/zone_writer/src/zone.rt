@@ -1,5 +1,5 @@
 //! Writing the whole fragment.
-ghost use Rattle.std.specs.Prelude.{◌≡◌, ℕ, ◌+◌, ◌<◌, ◌≤◌, ◌++◌, ◌∷◌, [], codes, decimal, drop, length, IfOk, OnOk};
+ghost use Rattle.std.specs.Prelude.{◌≡◌, ◌++◌, length, IfOk, OnOk};
 ghost use Rattle.record_pack.specs.Records.{IsCut, pieces_from};
 ghost use Rattle.zone_writer.specs.Fragment.{fragment_text, head_text, record_lines};
 
