@@ -9,7 +9,7 @@ use crate::stop::Stop;
 use crate::text::taken_line;
 use addr_bits::Bytes;
 use dns_name::Name;
-use itoa::Buffer;
+use record_pack::push_name;
 use std::alloc::{AllocError, Global};
 use zone_answers::Zones;
 
@@ -39,10 +39,7 @@ fn write_name(alloc: Global, form: Form<'_>, number: usize) -> Result<Bytes, All
     ensures { IfOk result (λ name. name ≡ needed_name (wanted_by form.entry) number) }
 {
     let mut name = Bytes::new(alloc);
-    name.extend_from_slice(form.label)?;
-    name.extend_from_slice(Buffer::new().format(number).as_bytes())?;
-    name.push(b'.')?;
-    name.extend_from_slice(form.domain)?;
+    push_name(&mut name, form.domain, form.label, number as u64)?;
     Ok(name)
 }
 
