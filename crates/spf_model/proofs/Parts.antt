@@ -1,7 +1,8 @@
 -- The parts that terms have in common: where they hand something on, and where they end the run.
 use Rattle.std.proofs.Common.{◌≡◌, ◌≢◌, ℕ, ◌+◌, ◌<◌, ◌≤◌, Bool, true, false, List, refl, sym, subst, arith, Option, Some, None, length, Result, Ok, Err}
 use Rattle.std.proofs.lemmas.Bool.{true≢false, lt-leb, le-leb}
-use Rattle.std.specs.Prelude.{nat_le, filter_map}
+use Rattle.std.specs.Prelude.{nat_le, filter_map, IsOk, IsSome}
+use Rattle.dns_name.specs.declared.fault.NameFault.{NameFault}
 use Rattle.zone_answers.specs.declared.answer.Answer.{Answer}
 use Rattle.zone_answers.specs.declared.answer.Answer.TheVariants as answer
 use Rattle.zone_answers.specs.declared.answer.Question.{Question}
@@ -18,7 +19,7 @@ use Rattle.spf_model.specs.declared.outcome.Halt.TheVariants.{Ended, Memory}
 use Rattle.spf_model.specs.declared.outcome.Outcome.{Outcome}
 use Rattle.spf_model.specs.declared.outcome.Outcome.TheVariants.{Perm, Temp, Unsettled}
 use Rattle.spf_model.specs.Run.{Run, Ends, Answering, EndsWith}
-use Rattle.spf_model.specs.Judging.{Site, Sub, Labels, judge, at, go_if, counted, void_counted, with_name, with_text, with_target, cause_of, answered, ask, answer_bodies, is_void, exchange_of, match_exchanges, match_hosts, with_host, with_domain, name_of}
+use Rattle.spf_model.specs.Judging.{Site, Sub, Labels, judge, at, go_if, counted, void_counted, with_name, with_text, with_target, cause_of, answered, ask, answer_bodies, is_void, exchange_of, match_exchanges, match_hosts, with_host, with_domain, legal, name_of}
 use Rattle.spf_model.specs.Leads.{EndsSo, LeadsTo, HandsOn, NoVerdict, Halts, IsJudged, IsSettled}
 
 -- a test that fails ends the run
@@ -44,6 +45,11 @@ pub void_full : (zones : Answering) (site : Site) (t : ℕ) (c : Counts) (halt :
 void_full zones site t c halt e full =
     subst (λ h. Halts zones (void_counted site t true c) h) (sym e)
     (tt, λ go. if_ends zones (nat_le (c.voids + 1) site.limits.voids) (Perm cause.Voids (at site t)) _ go (lt-leb (c.voids + 1) site.limits.voids (omega (arith, full))))
+
+-- a legal name is one
+pub legal_some : (found : Result Labels NameFault) → IsOk found → IsSome (legal found)
+legal_some (Ok name) is = refl
+legal_some (Err fault) is = is
 
 -- a name
 pub named : (zones : Answering) (o : Outcome) (found : Option Labels) (name : Labels) → found ≡ Some name → (c : Counts) → HandsOn zones (with_name o c found) name

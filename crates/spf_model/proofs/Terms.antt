@@ -9,15 +9,15 @@ use Rattle.spf_grammar.specs.declared.policy.Mechanism.{Mechanism}
 use Rattle.spf_grammar.specs.declared.policy.Mechanism.TheVariants.{Include}
 use Rattle.spf_grammar.specs.declared.policy.Term.{Term}
 use Rattle.spf_grammar.specs.declared.policy.Term.TheVariants.{Directive, Redirect, Exp, Unknown}
-use Rattle.spf_model.specs.declared.outcome.Cause.TheVariants as cause
 use Rattle.spf_model.specs.declared.outcome.Counts.{Counts}
 use Rattle.spf_model.specs.declared.outcome.Halt.{Halt}
 use Rattle.spf_model.specs.declared.outcome.Halt.TheVariants.{Ended, Memory}
+use Rattle.spf_model.specs.declared.outcome.Outcome.{Outcome}
 use Rattle.spf_model.specs.declared.outcome.Outcome.TheVariants.{Nothing, Is, Perm, Temp, Unsettled}
 use Rattle.spf_model.specs.Run.{Run, Ends, Answering, EndsWith, then_do}
 use Rattle.spf_model.specs.Judging.{Site, Sub, Labels, Judge, at, judge, judged_by, is_pass, with_verdict, with_domain}
 use Rattle.spf_model.specs.Check.{term_after, unless_matched, trying, tried, redirect_from, default, evaluated, with_record, check}
-use Rattle.spf_model.specs.Leads.{LeadsTo, HandsOn, Halts, IsJudged, IsVerdictOf, TargetFits, TermsFit, required_of}
+use Rattle.spf_model.specs.Leads.{LeadsTo, HandsOn, NoVerdict, Halts, IsJudged, IsVerdictOf, TargetFits, TermsFit, required, required_of}
 use Rattle.spf_model.proofs.Parts.{halts_through}
 use Rattle.spf_model.proofs.RunLaws.{ends_after}
 
@@ -29,6 +29,15 @@ TriedSoFar zones site terms first number rest counts = (depth : ℕ) → site.li
 
 -- ---- the record that a term asks for
 
+-- an outcome of its record that is no verdict ends the term
+term_ended : (zones : Answering) (site : Site) (t : ℕ) (go : Verdict → Counts → Run) (outcome : Outcome) (c : Counts) → NoVerdict outcome
+    → NoVerdict (required (at site t) outcome) × EndsWith zones (judged_by site t go outcome c) (required (at site t) outcome) c
+term_ended zones site t go (Is verdict) c none = absurd none
+term_ended zones site t go (Nothing place) c none = (tt, (refl, refl))
+term_ended zones site t go (Perm cause place) c none = (tt, (refl, refl))
+term_ended zones site t go (Temp cause place) c none = (tt, (refl, refl))
+term_ended zones site t go (Unsettled cause place) c none = (tt, (refl, refl))
+
 -- a verdict of its record goes on, and everything else ends the term
 pub target_judged : (zones : Answering) (site : Site) (sub : Sub) (t : ℕ) (spec : List Piece) (c : Counts) (text : List ℕ) (name : Labels) (d e : Counts) (r : Result Verdict Halt)
     → ((go : List ℕ → Labels → Counts → Run) → LeadsTo zones (with_domain site t spec c go) (go text name d)) → IsVerdictOf zones (sub text name d) e r
@@ -36,37 +45,12 @@ pub target_judged : (zones : Answering) (site : Site) (sub : Sub) (t : ℕ) (spe
 target_judged zones site sub t spec c text name d e (Ok v) found ends = λ go o a h.
     found (λ text name counts. then_do (sub text name counts) (judged_by site t go)) o a (ends_after zones (sub text name d) (judged_by site t go) (Is v) e o a ends h)
 target_judged zones site sub t spec c text name d e (Err Memory) found ends = tt
-target_judged zones site sub t spec c text name d e (Err (Ended (Is v))) found ends = absurd ends.0
-target_judged zones site sub t spec c text name d e (Err (Ended (Nothing p))) found ends = (
-  tt,
+target_judged zones site sub t spec c text name d e (Err (Ended o)) found ends = (
+  (term_ended zones site t (λ verdict counts. Ends (Is verdict) counts) o d ends.0).0,
   λ go. let end = ends.1 tt in (
     end.0,
-    found (λ text name counts. then_do (sub text name counts) (judged_by site t go)) (Perm cause.Missing (at site t)) end.0
-        (ends_after zones (sub text name d) (judged_by site t go) (Nothing p) end.0 (Perm cause.Missing (at site t)) end.0 end.1 (refl, refl)),
-  ),
-)
-target_judged zones site sub t spec c text name d e (Err (Ended (Perm q p))) found ends = (
-  tt,
-  λ go. let end = ends.1 tt in (
-    end.0,
-    found (λ text name counts. then_do (sub text name counts) (judged_by site t go)) (Perm q p) end.0
-        (ends_after zones (sub text name d) (judged_by site t go) (Perm q p) end.0 (Perm q p) end.0 end.1 (refl, refl)),
-  ),
-)
-target_judged zones site sub t spec c text name d e (Err (Ended (Temp q p))) found ends = (
-  tt,
-  λ go. let end = ends.1 tt in (
-    end.0,
-    found (λ text name counts. then_do (sub text name counts) (judged_by site t go)) (Temp q p) end.0
-        (ends_after zones (sub text name d) (judged_by site t go) (Temp q p) end.0 (Temp q p) end.0 end.1 (refl, refl)),
-  ),
-)
-target_judged zones site sub t spec c text name d e (Err (Ended (Unsettled q p))) found ends = (
-  tt,
-  λ go. let end = ends.1 tt in (
-    end.0,
-    found (λ text name counts. then_do (sub text name counts) (judged_by site t go)) (Unsettled q p) end.0
-        (ends_after zones (sub text name d) (judged_by site t go) (Unsettled q p) end.0 (Unsettled q p) end.0 end.1 (refl, refl)),
+    found (λ text name counts. then_do (sub text name counts) (judged_by site t go)) (required (at site t) o) end.0
+        (ends_after zones (sub text name d) (judged_by site t go) o end.0 (required (at site t) o) end.0 end.1 (term_ended zones site t go o end.0 ends.0).1),
   ),
 )
 

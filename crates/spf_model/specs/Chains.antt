@@ -77,7 +77,8 @@ abbrev pub all_terms : List (List FlatTerm) → List FlatTerm
 all_terms [] = []
 all_terms (terms ∷ lists) = terms ++ all_terms lists
 
--- an evaluation of a chain of so many records: it ends with this verdict, each redirect counts one lookup, and none is void
+-- RFC 7208, section 6.1: the evaluation of a chain gives the address the verdict of the first of all terms that has it, with fewer
+-- lookups than records and no void
 pub record GivesFlat (zones : Answering) (limits : Limits) (a : Address) (domain : List ℕ) (name : Labels) (lists : List (List FlatTerm)) : Type 0 where
   pub counts : Counts
   pub ends : EndsWith zones (check_host limits a domain name) (Is (first (all_terms lists) a)) counts

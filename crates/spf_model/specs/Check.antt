@@ -77,11 +77,12 @@ text_of (body.Cname name) = None
 text_of (body.Ns name) = None
 text_of body.Other = None
 
--- RFC 7208, section 4.5: the text of a TXT record that is an SPF text
+-- a text that passes the test
 abbrev pub only_if : (List ℕ → Bool) → Option (List ℕ) → Option (List ℕ)
 only_if test None = None
 only_if test (Some text) = if test text then Some text else None
 
+-- RFC 7208, section 4.5: the text of a TXT record that is an SPF text
 abbrev pub spf_text_of : Body → Option (List ℕ)
 spf_text_of body = only_if is_spf_text (text_of body)
 

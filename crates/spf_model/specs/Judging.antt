@@ -47,6 +47,7 @@ pub record Site : Type 0 where
   pub domain : List ℕ
   pub name : Labels
 
+-- a term of the record
 abbrev pub at : Site → ℕ → Place
 at site term = record { name = site.name; term = term }
 
@@ -106,21 +107,26 @@ abbrev pub with_name : Outcome → Counts → Option Labels → (Labels → Run)
 with_name outcome counts None go = Ends outcome counts
 with_name outcome counts (Some name) go = go name
 
--- RFC 7208, section 4.8: a term that asks for hosts counts a lookup, and goes on with its target as a name. That one which is no name
--- is left open is the project's own choice
-abbrev pub with_host : Site → ℕ → Option (List Piece) → Counts → (Labels → Counts → Run) → Run
-with_host site t spec counts go =
-    counted site t counts (λ counts.
-    with_target site t counts spec (λ text.
-    with_name (Unsettled cause.Target (at site t)) counts (name_of text) (λ name. go name counts)))
+-- RFC 7208, section 4.8: the name of hosts that a term asks for, its target. That one which is no name is left open is the project's
+-- own choice
+abbrev pub naming : Site → ℕ → Option (List Piece) → Counts → (Labels → Run) → Run
+naming site t spec counts go =
+    with_target site t counts spec (λ text. with_name (Unsettled cause.Target (at site t)) counts (name_of text) go)
 
--- RFC 7208, sections 5.2 and 6.1: a term that asks for a record counts a lookup, and goes on with its target as a text and a name; one
--- which is no name is an error
+-- RFC 7208, section 4.8: a term that asks for hosts counts a lookup, and goes on with their name
+abbrev pub with_host : Site → ℕ → Option (List Piece) → Counts → (Labels → Counts → Run) → Run
+with_host site t spec counts go = counted site t counts (λ counts. naming site t spec counts (λ name. go name counts))
+
+-- RFC 7208, sections 5.2 and 6.1: the domain whose record a term asks for, its target as a text and as a name; one which is no name is
+-- an error
+abbrev pub naming_target : Site → ℕ → List Piece → Counts → (List ℕ × Labels → Run) → Run
+naming_target site t spec counts go =
+    with_target site t counts (Some spec) (λ text. with_name (Perm cause.Missing (at site t)) counts (name_of text) (λ name. go (text, name)))
+
+-- RFC 7208, sections 5.2 and 6.1: a term that asks for a record counts a lookup, and goes on with its domain
 abbrev pub with_domain : Site → ℕ → List Piece → Counts → (List ℕ → Labels → Counts → Run) → Run
 with_domain site t spec counts go =
-    counted site t counts (λ counts.
-    with_target site t counts (Some spec) (λ text.
-    with_name (Perm cause.Missing (at site t)) counts (name_of text) (λ name. go text name counts)))
+    counted site t counts (λ counts. naming_target site t spec counts (λ found. go found.0 found.1 counts))
 
 -- project's own choice: an answer to a term's question that leads out of the zones leaves the run open, and one that goes round
 -- is an error (after RFC 7208, sections 2.6.6 and 5)
@@ -149,6 +155,7 @@ is_void answer.NoData = true
 is_void answer.Loop = false
 is_void (answer.Found bodies) = false
 
+-- RFC 7208, section 5.7: an answer that has records
 abbrev pub is_found : Answer → Bool
 is_found answer.Outside = false
 is_found answer.NoName = false
@@ -161,6 +168,7 @@ abbrev pub address_kind : Address → QKind
 address_kind (address.V4 a) = kind.A
 address_kind (address.V6 a) = kind.Aaaa
 
+-- RFC 7208, section 5: the question for the addresses of a name
 abbrev pub address_question : Address → Labels → Question
 address_question a name = record { name = name; kind = address_kind a }
 
@@ -176,6 +184,7 @@ body_agrees len4 len6 a (body.Cname name) = false
 body_agrees len4 len6 a (body.Ns name) = false
 body_agrees len4 len6 a body.Other = false
 
+-- RFC 7208, sections 5.3 and 5.4: one of the addresses that were found agrees
 abbrev pub some_agrees : ℕ → ℕ → Address → List Answer → Bool
 some_agrees len4 len6 a answers = list_any (λ found. list_any (body_agrees len4 len6 a) (answer_bodies found)) answers
 

@@ -1,4 +1,5 @@
--- What the parts of an evaluation say of the run that they are a part of. A part is what comes after it, led to a run.
+-- What the parts of an evaluation say of the run that they are a part of (the project's own form), and what a record has whose terms
+-- can be judged. A part is what comes after it, led to a run.
 use Rattle.std.specs.Prelude.{ℕ, ◌≤◌, IsTrue, List, [], ◌∷◌, Option, Some, None, Result, Ok, Err, MatchResult, MatchOption}
 use Rattle.std.specs.List.{list_all}
 use Rattle.spf_macros.specs.declared.piece.Piece.{Piece}
@@ -14,6 +15,7 @@ use Rattle.spf_model.specs.declared.outcome.Counts.{Counts}
 use Rattle.spf_model.specs.declared.outcome.Halt.{Halt}
 use Rattle.spf_model.specs.declared.outcome.Halt.TheVariants.{Ended, Memory}
 use Rattle.spf_model.specs.declared.outcome.Outcome.{Outcome}
+use Rattle.spf_model.specs.declared.outcome.Place.{Place}
 use Rattle.spf_model.specs.declared.outcome.Outcome.TheVariants.{Nothing, Is, Perm, Temp, Unsettled}
 use Rattle.spf_model.specs.Run.{Run, Answering, EndsWith}
 use Rattle.spf_model.specs.Judging.{Site, at}
@@ -64,15 +66,20 @@ IsJudged {A} zones part counts result =
 abbrev pub IsVerdictOf : Answering → Run → Counts → Result Verdict Halt → Type 0
 IsVerdictOf zones run counts result = MatchResult result (λ verdict. EndsWith zones run (Is verdict) counts) (Halts zones (λ (u : Unit {0}). run))
 
--- that a term's record does not exist is an error of the term
+-- RFC 7208, sections 5.2 and 6.1: that the record which a term asks for does not exist is an error of the term
+abbrev pub required : Place → Outcome → Outcome
+required place (Nothing there) = Perm cause.Missing place
+required place (Is verdict) = Is verdict
+required place (Perm cause there) = Perm cause there
+required place (Temp cause there) = Temp cause there
+required place (Unsettled cause there) = Unsettled cause there
+
+-- the same where the evaluation of that record halts
 abbrev pub required_halt : Site → ℕ → Halt → Halt
-required_halt site t (Ended (Nothing place)) = Ended (Perm cause.Missing (at site t))
-required_halt site t (Ended (Is verdict)) = Ended (Is verdict)
-required_halt site t (Ended (Perm cause place)) = Ended (Perm cause place)
-required_halt site t (Ended (Temp cause place)) = Ended (Temp cause place)
-required_halt site t (Ended (Unsettled cause place)) = Ended (Unsettled cause place)
+required_halt site t (Ended outcome) = Ended (required (at site t) outcome)
 required_halt site t Memory = Memory
 
+-- the same where it may have a verdict
 abbrev pub required_of : Site → ℕ → Result Verdict Halt → Result Verdict Halt
 required_of site t (Ok verdict) = Ok verdict
 required_of site t (Err halt) = Err (required_halt site t halt)
@@ -101,12 +108,14 @@ MechanismFits (Ip4 p) = Unit {0}
 MechanismFits (Ip6 p) = Unit {0}
 MechanismFits (Exists spec) = TargetFits (Some spec)
 
+-- RFC 7208, section 12: what the grammar lets a term have
 abbrev pub TermFits : Term → Type 0
 TermFits (Directive verdict mechanism) = MechanismFits mechanism
 TermFits (Redirect spec) = TargetFits (Some spec)
 TermFits (Exp spec) = Unit {0}
 TermFits (Unknown name value) = Unit {0}
 
+-- RFC 7208, section 12: what it lets the terms of a record have
 abbrev pub TermsFit : List Term → Type 0
 TermsFit [] = Unit {0}
 TermsFit (term ∷ terms) = TermFits term × TermsFit terms

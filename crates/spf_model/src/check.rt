@@ -171,7 +171,7 @@ impl Frame<'_> {
 
 /// The outcome of check_host (RFC 7208, section 4) for one address, over the lent zones. An address of IPv6 that maps one
 /// of IPv4 stays of IPv6. The domain must be a legal name, and each limit at most 1,000, since records are nested as deep
-/// as the limit on lookups.
+/// as the limit on lookups. `AllocError` where there is no memory.
 pub fn check_one(
     alloc: Global,
     zones: &Zones,

@@ -1,5 +1,5 @@
 //! The mechanisms that ask for addresses (RFC 7208, sections 5.3, 5.4 and 5.7).
-ghost use Rattle.std.specs.Prelude.{◌≡◌, ◌≤◌, ◌||◌, IfOk, List, Option, Some, map, filter_map, option_map};
+ghost use Rattle.std.specs.Prelude.{◌≡◌, ◌≤◌, IfOk, List, Option, Some, map, filter_map, option_map};
 ghost use Rattle.std.specs.List.{list_any};
 ghost use Rattle.spf_macros.specs.declared.piece.Piece.{Piece};
 ghost use Rattle.spf_model.specs.Run.{says};

@@ -16,8 +16,8 @@ pub fn depth_suffices()
     ensures { DepthSuffices }
 {}
 
-/// A chain of flat records, of which each but the last redirects to the next, gives every address the verdict of the first
-/// of all its terms that has it (RFC 7208, section 6.1). Each redirect counts one lookup, and none is void.
+/// A chain of flat records, at most one more than the limit on lookups, gives every address the verdict of the first of
+/// all its terms that has it, with fewer lookups than records and no void (RFC 7208, section 6.1).
 pub fn chains_give_first()
     ensures { ChainsGiveFirst }
 {}

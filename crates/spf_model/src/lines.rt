@@ -57,7 +57,7 @@ fn push_cause(
 }
 
 /// The words of an outcome: a verdict (RFC 7208, section 2.6), or `none`, `permerror`, `temperror` or `open` with the
-/// cause, the printed name of the record, and the number of the term.
+/// cause, the printed name of the record, and the number of the term. `AllocError` where there is no memory.
 pub fn write_outcome(alloc: Global, outcome: &Outcome) -> Result<Bytes, AllocError>
     ensures { IfOk result (λ words. words ≡ outcome_words outcome.now) }
 {
@@ -85,7 +85,7 @@ pub fn write_outcome(alloc: Global, outcome: &Outcome) -> Result<Bytes, AllocErr
 }
 
 /// Why an outcome is no verdict, and where: the cause, the printed name of the record, and the number of the term, as in
-/// `lookups example.com 7`. Of a verdict there is nothing.
+/// `lookups example.com 7`. Of a verdict there is nothing. `AllocError` where there is no memory.
 pub fn write_cause(alloc: Global, outcome: &Outcome) -> Result<Bytes, AllocError>
     ensures { IfOk result (λ words. words ≡ cause_text outcome.now) }
 {

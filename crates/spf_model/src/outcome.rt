@@ -60,7 +60,9 @@ pub enum Cause {
 /// A term of the record at a name, counted from 1 with the modifiers; 0 is the record as a whole.
 #[derive(Clone, Debug, Drop, PartialEq, Eq)]
 pub struct Place {
+    /// The name of the record.
     pub name: Name,
+    /// The number of the term, or 0.
     pub term: u32,
 }
 

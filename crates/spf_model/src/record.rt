@@ -3,7 +3,7 @@ ghost use Rattle.std.specs.Prelude.{◌≡◌, [], ◌∷◌, IfOk, filter_map};
 ghost use Rattle.std.specs.List.{concat};
 ghost use Rattle.spf_model.specs.Run.{says};
 ghost use Rattle.spf_model.specs.Check as check;
-ghost use Rattle.spf_model.specs.Leads.{site_of, IsSettled, TermsFit};
+ghost use Rattle.spf_model.specs.Leads.{IsSettled, TermsFit};
 ghost use Rattle.spf_model.specs.declared.outcome.Counts.{Counts as CountsSoFar};
 
 use crate::Cause;

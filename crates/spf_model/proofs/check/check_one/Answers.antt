@@ -1,14 +1,10 @@
-use Rattle.std.proofs.Common.{suc, Option, Result, Ok, Err, refl, sym, ◌∙◌, subst, arith}
-use Rattle.std.specs.Prelude.{IsOk, IsSome}
-use Rattle.dns_name.specs.declared.fault.NameFault.{NameFault}
+use Rattle.std.proofs.Common.{suc, Option, sym, ◌∙◌, subst, arith}
+use Rattle.std.specs.Prelude.{IsSome}
 use Rattle.dns_name.specs.Name.{name_of_text}
-use Rattle.spf_model.specs.Judging.{Labels, legal, name_of}
+use Rattle.spf_model.specs.Judging.{Labels, name_of}
 use Rattle.spf_model.specs.Check.{check_host}
+use Rattle.spf_model.proofs.Parts.{legal_some}
 use Rattle.spf_model.proofs.check.check_one.Goals as goal
-
-legal_some : (r : Result Labels NameFault) → IsOk r → IsSome (legal r)
-legal_some (Ok name) h = refl
-legal_some (Err fault) h = h
 
 pub unwrap-name-requires : goal.unwrap-name-requires
 unfolding name_of

@@ -11,14 +11,14 @@ use Rattle.spf_model.proofs.frame.Frame.match_exchanges.Goals as goal
 
 pub returns-then-hosts-self-clause-judged : goal.returns-then-hosts-self-clause-judged
 returns-then-hosts-self-clause-judged c =
-    let e = ap (map (λ (name : Bor Name). name.now)) c.as_slice-hosts.ensures.value ∙ c.in_ok-exchanges.ensures ∙ ap (λ (bodies : List Body). filter_map exchange_of bodies) c.bodies_of.ensures in
+    let e = ap (map (λ (name : Bor Name). name.now)) c.as_slice-hosts.ensures.value ∙ c.in_ok-exchanges.ensures ∙ ap (λ (bodies : List Body). filter_map exchange_of bodies) c.bodies.ensures in
     let n = sym (length-map c.as_slice-hosts.result.now (λ (name : Bor Name). name.now)) ∙ ap length e in
     too_many (says c.args.self.now.zones.now) (site_of c.args.self.now) c.args.term c.args.lens.len4 c.args.lens.len6 c.args.answer.now c.args.counts.now c.error.result c.error.ensures
     (subst (λ (k : ℕ). c.args.self.now.limits.exchanges < k) n c.if-hosts-self.true)
 
 pub returns-clause-judged : goal.returns-clause-judged
 returns-clause-judged c =
-    let e = ap (map (λ (name : Bor Name). name.now)) c.as_slice-hosts.ensures.value ∙ c.in_ok-exchanges.ensures ∙ ap (λ (bodies : List Body). filter_map exchange_of bodies) c.bodies_of.ensures in
+    let e = ap (map (λ (name : Bor Name). name.now)) c.as_slice-hosts.ensures.value ∙ c.in_ok-exchanges.ensures ∙ ap (λ (bodies : List Body). filter_map exchange_of bodies) c.bodies.ensures in
     let n = sym (length-map c.as_slice-hosts.result.now (λ (name : Bor Name). name.now)) ∙ ap length e in
     judged_through (says c.args.self.now.zones.now)
     (match_exchanges (site_of c.args.self.now) c.args.term c.args.counts.now c.args.lens.len4 c.args.lens.len6 c.args.answer.now)
