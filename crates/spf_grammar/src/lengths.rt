@@ -1,8 +1,7 @@
 //! The lengths of networks.
-ghost use Rattle.std.specs.Prelude.{◌≡◌, ◌↔◌, min, decimal, IsTrue};
-ghost use Rattle.std.specs.List.{list_all, prefix_len};
+ghost use Rattle.std.specs.Prelude.{◌≡◌, ◌↔◌, decimal, IsTrue};
+ghost use Rattle.std.specs.List.{list_all};
 ghost use Rattle.std.specs.Char.{is_ascii_digit};
-ghost use Rattle.std.specs.Str.Parse.{digits_value};
 ghost use Rattle.spf_macros.specs.Reading.{Reads};
 ghost use Rattle.spf_grammar.specs.Grammar.{SpellsLen};
 ghost use Rattle.spf_grammar.specs.Reading.{SpellsNumber, SpellsDual, SplitsDual};
