@@ -14,12 +14,11 @@ use Rattle.spf_model.specs.declared.outcome.Halt.TheVariants.{Ended, Memory}
 use Rattle.spf_model.specs.declared.outcome.Outcome.{Outcome}
 use Rattle.spf_model.specs.declared.outcome.Outcome.TheVariants.{Perm, Temp, Unsettled}
 use Rattle.spf_model.specs.Run.{Run, Ends, Asks, Answering}
-use Rattle.spf_model.specs.Judging.{Labels, with_target, with_name, name_of, answered, ask}
+use Rattle.spf_model.specs.Judging.{Labels, with_target, with_name, name_of, naming, naming_target, answered, ask}
 use Rattle.spf_model.specs.Leads.{NoVerdict}
 use Rattle.symbolic_check.specs.declared.scene.Scene.{Scene}
 use Rattle.symbolic_check.specs.Walk.{Follows}
 use Rattle.symbolic_check.specs.Settling.{PartOf, site_at, Passes, Stops, Settles}
-use Rattle.symbolic_check.specs.Hosts.{naming, naming_target}
 use Rattle.symbolic_check.proofs.Following.{follows_itself, follows_question}
 use Rattle.symbolic_check.proofs.Settling.{then_part, passes_twice, stops_next, stops_first, adds_none, adds_first, adds_twice}
 

@@ -1,20 +1,16 @@
 -- The evaluation of a family, from a walk over its record.
-use Rattle.std.proofs.Common.{◌≡◌, ℕ, ◌+◌, suc, ◌<◌, ◌^◌, List, [], refl, sym, subst, inl, inr, ◌∙◌, arith, Contains, Option, Some, None, IsSomeAnd}
+use Rattle.std.proofs.Common.{◌≡◌, ℕ, ◌+◌, suc, ◌<◌, ◌^◌, List, refl, sym, subst, inl, inr, ◌∙◌, arith, Contains, Option, Some, None, IsSomeAnd}
 use Rattle.std.specs.Prelude.{option_map}
 use Rattle.addr_bits.specs.Prefix.{Cidr}
 use Rattle.addr_bits.specs.declared.address.Address.{Address}
-use Rattle.addr_bits.proofs.Texts.{one_address}
 use Rattle.zone_answers.specs.declared.answer.Question.{Question}
 use Rattle.prefix_trie.specs.Leaves.{value_at}
 use Rattle.spf_grammar.specs.declared.verdict.Verdict.TheVariants.{Neutral}
-use Rattle.spf_grammar.proofs.OnePolicy.{one_policy}
 use Rattle.spf_model.specs.declared.outcome.Counts.{Counts}
-use Rattle.spf_model.specs.declared.outcome.Place.{Place}
 use Rattle.spf_model.specs.declared.outcome.Outcome.{Outcome}
-use Rattle.spf_model.specs.declared.outcome.Outcome.TheVariants.{Nothing, Is}
+use Rattle.spf_model.specs.declared.outcome.Outcome.TheVariants.{Is}
 use Rattle.spf_model.specs.Check.{check, check_host}
 use Rattle.spf_model.specs.Run.{Run, Ends, Answering, EndsWith, AsksFor}
-use Rattle.spf_model.proofs.RunLaws.{one_end}
 use Rattle.symbolic_check.specs.declared.scene.Scene.{Scene}
 use Rattle.symbolic_check.specs.declared.state.State.{State}
 use Rattle.symbolic_check.specs.declared.state.State.TheVariants.{Live, Decided, Failed}
@@ -22,23 +18,12 @@ use Rattle.symbolic_check.specs.Steps.{outcome_of}
 use Rattle.symbolic_check.specs.Walk.{Follows, Leaves, Moves, Walks}
 use Rattle.symbolic_check.specs.Scenes.{record_stretch}
 use Rattle.symbolic_check.specs.Families.{run_at, AreEndsOf}
+use Rattle.symbolic_check.proofs.Targets.{never_live}
 
-differ : {p : Place} → Is Neutral ≡ Nothing p → ⊥
-differ e = cc
-
--- a run that goes on nowhere leaves no address live: it would end in two ways
-goes_nowhere : (zones : Answering) (asked : List Question) (run : Run) (c : Counts) → ((go : Counts → Run) → Follows zones asked run (go c)) → ⊥
-goes_nowhere zones asked run c h =
-    differ (one_end (one_policy one_address) zones run (Is Neutral) (Nothing none) c c
-    (((h (Ends (Is Neutral))).ends (Is Neutral) c).0 (refl, refl)) (((h (Ends (Nothing none))).ends (Nothing none) c).0 (refl, refl))).0
-  where
-    none : Place
-    none = record { name = []; term = 0 }
-
--- so what it leaves is its end
+-- what a run leaves that goes on nowhere is its end
 over : (zones : Answering) (asked : List Question) (run : Run) (state : State) → Leaves zones asked (λ go. run) state
     → (counts : Counts) × Follows zones asked run (Ends (outcome_of state) counts)
-over zones asked run (Live c) h = absurd (goes_nowhere zones asked run c h)
+over zones asked run (Live c) h = absurd (never_live zones asked run c h)
 over zones asked run (Decided v c) h = (c, h (Ends (Is Neutral)))
 over zones asked run (Failed o) h = h.1 (Ends (Is Neutral))
 

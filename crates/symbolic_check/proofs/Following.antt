@@ -7,14 +7,14 @@ use Rattle.spf_model.specs.declared.outcome.Outcome.{Outcome}
 use Rattle.spf_model.specs.Run.{Run, Asks, Answering, then_do}
 use Rattle.spf_model.proofs.RunLaws.{ends_split, ends_after, asks_first, asks_after, asks_split}
 use Rattle.symbolic_check.specs.Walk.{Follows}
-use Rattle.symbolic_check.specs.Laws.{FollowsTwice}
 
 -- a run follows itself
 pub follows_itself : (zones : Answering) (asked : List Question) (run : Run) → Follows zones asked run run
 follows_itself zones asked run = record { ends = λ o c. (λ h. h, λ h. h); asks = λ q h. h; covers = λ q h. inr h }
 
 -- a rest of a rest is a rest
-pub follows_twice : FollowsTwice
+pub follows_twice : (zones : Answering) (asked : List Question) (run mid rest : Run)
+    → Follows zones asked run mid → Follows zones asked mid rest → Follows zones asked run rest
 follows_twice zones asked run mid rest f g = record {
   ends = λ o c. (λ h. (f.ends o c).0 ((g.ends o c).0 h), λ h. (g.ends o c).1 ((f.ends o c).1 h));
   asks = λ q h. f.asks q (g.asks q h);

@@ -19,7 +19,7 @@ use Rattle.spf_model.specs.declared.outcome.Counts.{Counts}
 use Rattle.spf_model.specs.declared.outcome.Outcome.TheVariants.{Perm, Unsettled}
 use Rattle.spf_model.specs.declared.outcome.Place.{Place}
 use Rattle.spf_model.specs.Run.{Run, Ends, Answering}
-use Rattle.spf_model.specs.Judging.{Site, at, counted, void_counted, go_if, ask, ask_all, address_question, match_hosts, match_exchanges, exchange_of, body_agrees, answer_bodies, some_agrees, is_void, is_found}
+use Rattle.spf_model.specs.Judging.{Site, at, counted, void_counted, go_if, ask, ask_all, address_question, match_hosts, match_exchanges, exchange_of, body_agrees, answer_bodies, some_agrees, is_void, is_found, naming}
 use Rattle.spf_model.specs.Check.{unless_matched}
 use Rattle.symbolic_check.specs.declared.gathered.Gathered.{Gathered}
 use Rattle.symbolic_check.specs.declared.scene.Scene.{Scene}
@@ -27,7 +27,7 @@ use Rattle.symbolic_check.specs.declared.state.State.{State}
 use Rattle.symbolic_check.specs.Steps.{after_lookup, after_void, after_match, after_failure}
 use Rattle.symbolic_check.specs.Walk.{Stretch, Moves, Walks, SomeLive, StepsAt, StepsWith, then_stretch}
 use Rattle.symbolic_check.specs.Settling.{PartOf, site_at, Settles, SettlesBy}
-use Rattle.symbolic_check.specs.Hosts.{Found, IsGathered, naming, gather_a, gather_exchanges, gather_mx, gather_exists, judge_hosts, judge_found}
+use Rattle.symbolic_check.specs.Hosts.{Found, IsGathered, gather_a, gather_exchanges, gather_mx, gather_exists, judge_hosts, judge_found}
 use Rattle.symbolic_check.specs.Scenes.{term_stretch}
 use Rattle.symbolic_check.proofs.Walking.{walks_twice, walks_by_steps}
 use Rattle.symbolic_check.proofs.Stepping.{lookup_moves, void_moves, match_moves, failure_moves}

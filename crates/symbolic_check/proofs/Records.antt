@@ -17,14 +17,13 @@ use Rattle.spf_model.specs.declared.outcome.Halt.TheVariants.{Ended}
 use Rattle.spf_model.specs.declared.outcome.Outcome.{Outcome}
 use Rattle.spf_model.specs.declared.outcome.Outcome.TheVariants.{Perm}
 use Rattle.spf_model.specs.Run.{Run, Answering}
-use Rattle.spf_model.specs.Judging.{Labels}
+use Rattle.spf_model.specs.Judging.{Labels, naming_target}
 use Rattle.spf_model.specs.Check.{check, with_record, evaluated, redirect_from}
 use Rattle.spf_model.specs.Leads.{TargetFits, TermFits, TermsFit}
 use Rattle.symbolic_check.specs.declared.scene.Scene.{Scene}
 use Rattle.symbolic_check.specs.declared.state.State.{State}
 use Rattle.symbolic_check.specs.declared.state.Purpose.{Purpose}
 use Rattle.symbolic_check.specs.declared.state.Purpose.TheVariants.{Include, Redirect}
-use Rattle.symbolic_check.specs.Hosts.{naming_target}
 use Rattle.symbolic_check.specs.Settling.{site_at, Settles}
 use Rattle.symbolic_check.specs.Steps.{entered, after_lookup, after_match, after_failure, after_target}
 use Rattle.symbolic_check.specs.Scenes.{term_stretch, terms_stretch, default_stretch, record_stretch, target_stretch, reached_stretch}

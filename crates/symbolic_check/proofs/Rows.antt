@@ -19,8 +19,9 @@ use Rattle.symbolic_check.specs.Steps.{after_networks}
 use Rattle.symbolic_check.specs.Networks.{is_row_term, first_network}
 use Rattle.symbolic_check.specs.Scenes.{judges, number_after, terms_stretch, term_stretch}
 use Rattle.symbolic_check.specs.Settling.{site_at}
-use Rattle.symbolic_check.specs.Walk.{Stretch, Moves, Walks, StepsWith}
+use Rattle.symbolic_check.specs.Walk.{Stretch, Moves, Walks, NoneLive, StepsWith}
 use Rattle.symbolic_check.proofs.Walking.{walks_twice}
+use Rattle.symbolic_check.proofs.Settling.{walks_idle}
 use Rattle.symbolic_check.proofs.Stepping.{networks_move}
 
 -- ---- a step with another trie
@@ -197,6 +198,21 @@ walked_term bits zones address scene depth terms old asked start index number st
     split = ap (λ (xs : List Term). in_row ++ xs) (sym (next_term terms index term below e))
         ∙ ap (λ (xs : List Term). in_row ++ xs) (ap (λ (n : ℕ). drop n terms) at_index ∙ sym (drop-drop (index - start) start terms))
         ∙ take-append-drop (index - start) (drop start terms)
+
+-- no address is live behind the row
+pub walked_idle : (bits : ℕ) (zones : Answering) (address : ℕ → Address) (scene : Scene) (depth : ℕ) (terms : List Term) (old : List (Cidr × State)) (asked : List Question)
+    (start index number : ℕ) (states mid : List (Cidr × State)) (between : List Question)
+    → WalkedSoFar bits zones address scene depth terms old asked start index number states between
+    → PassesRow bits zones address scene (index - start) (take (index - start) (drop start terms)) states mid → NoneLive bits mid
+    → Walks bits zones (terms_stretch address scene depth 1 terms) old mid asked between
+walked_idle bits zones address scene depth terms old asked start index number states mid between so_far passes none =
+    so_far.walks mid between
+    (subst (λ (xs : List Term). Walks bits zones (terms_stretch address scene depth so_far.first xs) states mid between between) (take-append-drop (index - start) (drop start terms))
+    (passes depth so_far.first rest mid between between
+    (walks_idle bits zones (terms_stretch address scene depth (number_after so_far.first (index - start)) rest) mid between none)))
+  where
+    rest : List Term
+    rest = drop (index - start) (drop start terms)
 
 -- the last row is walked
 pub walked_all : {E : Type 0} (bits : ℕ) (zones : Answering) (address : ℕ → Address) (scene : Scene) (depth : ℕ) (terms : List Term) (old : List (Cidr × State)) (asked : List Question)

@@ -1,16 +1,15 @@
 -- Parts that every address has alike, one after the other and before a walk.
-use Rattle.std.proofs.Common.{◌≡◌, ℕ, Bool, true, false, List, refl, sym, ap, subst, inl, inr, Option, Some, None, IsSomeAnd}
+use Rattle.std.proofs.Common.{◌≡◌, ℕ, true, false, List, refl, sym, subst, inl, inr, Option, Some, None, IsSomeAnd}
 use Rattle.std.proofs.lemmas.Bool.{true≢false}
 use Rattle.addr_bits.specs.Prefix.{Cidr}
 use Rattle.zone_answers.specs.declared.answer.Question.{Question}
 use Rattle.prefix_trie.specs.Leaves.{value_at}
-use Rattle.spf_grammar.specs.declared.verdict.Verdict.{Verdict}
 use Rattle.spf_model.specs.declared.outcome.Counts.{Counts}
 use Rattle.spf_model.specs.declared.outcome.Outcome.{Outcome}
 use Rattle.spf_model.specs.Run.{Run, Ends, Answering}
 use Rattle.symbolic_check.specs.declared.state.State.{State}
 use Rattle.symbolic_check.specs.declared.state.State.TheVariants.{Live, Decided, Failed}
-use Rattle.symbolic_check.specs.Steps.{is_live, after_match, after_failure}
+use Rattle.symbolic_check.specs.Steps.{is_live, after_failure}
 use Rattle.symbolic_check.specs.Walk.{Stretch, Moves, Walks, SomeLive, NoneLive, StepsAt}
 use Rattle.symbolic_check.specs.Settling.{PartOf, Passes, Stops, Adds}
 use Rattle.symbolic_check.proofs.Following.{follows_twice, follows_more}
@@ -190,18 +189,3 @@ walks_idle bits zones stretch states asked none = record {
   kept = λ q h. h;
   only = λ q h. inl h;
 }
-
-idle_matched : (verdict : Verdict) (matches : Bool) (state : State) → is_live state ≡ false → after_match verdict matches state ≡ state
-idle_matched verdict false state h = refl
-idle_matched verdict true (Live c) h = absurd (true≢false h)
-idle_matched verdict true (Decided v c) h = refl
-idle_matched verdict true (Failed o) h = refl
-
-idle_steps : (verdict : Verdict) (matches : Bool) (old : Option State) → IsSomeAnd old (λ s. is_live s ≡ false) → IsSomeAnd old (λ s. old ≡ Some (after_match verdict matches s))
-idle_steps verdict matches None h = h
-idle_steps verdict matches (Some s) h = ap Some (sym (idle_matched verdict matches s h))
-
--- no directive changes anything there
-pub matched_idle : (bits : ℕ) (verdict : Verdict) (matches : Bool) (states : List (Cidr × State))
-    → NoneLive bits states → StepsAt bits (λ a. after_match verdict matches) states states
-matched_idle bits verdict matches states none = λ a below. idle_steps verdict matches (value_at bits states a) (none a below)

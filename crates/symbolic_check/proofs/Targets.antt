@@ -55,7 +55,7 @@ pass_not_neutral e = true≢false (ap passes e)
     passes (Unsettled cause place) = false
 
 -- a run that others go on from has one end, so it doesn't end as whatever comes after it
-never_live : (zones : Answering) (asked : List Question) (run : Run) (c : Counts) → ((go : Counts → Run) → Follows zones asked run (go c)) → ⊥
+pub never_live : (zones : Answering) (asked : List Question) (run : Run) (c : Counts) → ((go : Counts → Run) → Follows zones asked run (go c)) → ⊥
 never_live zones asked run c h = pass_not_neutral (
     one_end (one_policy one_address) zones run (Is Pass) (Is Neutral) c c
     (((h (λ counts. Ends (Is Pass) counts)).ends (Is Pass) c).0 (refl, refl))

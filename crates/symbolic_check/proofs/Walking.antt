@@ -11,7 +11,6 @@ use Rattle.spf_model.specs.Run.{Run, Ends, Answering, AsksFor}
 use Rattle.symbolic_check.specs.declared.state.State.{State}
 use Rattle.symbolic_check.specs.declared.state.State.TheVariants.{Live, Decided, Failed}
 use Rattle.symbolic_check.specs.Walk.{Follows, Leaves, Part, Stretch, Moves, Walks, then_stretch, StepsAt}
-use Rattle.symbolic_check.specs.Laws.{WalksTwice}
 use Rattle.symbolic_check.proofs.Following.{follows_itself, follows_twice, follows_more}
 
 -- all questions of one list are in another
@@ -79,7 +78,10 @@ live_before : (zones : Answering) (asked : List Question) (first : Stretch) (old
 live_before zones asked first None mid d e h = absurd h
 live_before zones asked first (Some s) mid d e h = live_from zones asked first s d (subst (λ m. IsSomeAnd m (Moves zones asked first s)) e h)
 
-pub walks_twice : WalksTwice
+-- two walks one after the other are a walk over both stretches
+pub walks_twice : (bits : ℕ) (zones : Answering) (first next : ℕ → Stretch) (old mid new : List (Cidr × State)) (asked between more : List Question)
+    → Walks bits zones first old mid asked between → Walks bits zones next mid new between more
+    → Walks bits zones (λ a. then_stretch (first a) (next a)) old new asked more
 walks_twice bits zones first next old mid new asked between more f g = record {
   each = λ a below. stands_twice zones between more (first a) (next a) g.kept (value_at bits old a) (value_at bits mid a) (value_at bits new a) (f.each a below) (g.each a below);
   kept = λ q h. g.kept q (f.kept q h);

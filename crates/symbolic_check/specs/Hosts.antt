@@ -7,9 +7,9 @@ use Rattle.spf_macros.specs.declared.piece.Piece.{Piece}
 use Rattle.spf_grammar.specs.declared.verdict.Verdict.{Verdict}
 use Rattle.spf_model.specs.declared.outcome.Cause.TheVariants as cause
 use Rattle.spf_model.specs.declared.outcome.Counts.{Counts}
-use Rattle.spf_model.specs.declared.outcome.Outcome.TheVariants.{Perm, Unsettled}
+use Rattle.spf_model.specs.declared.outcome.Outcome.TheVariants.{Perm}
 use Rattle.spf_model.specs.Run.{Run}
-use Rattle.spf_model.specs.Judging.{Labels, Site, at, with_target, with_name, name_of, ask, ask_all, go_if, address_question, exchange_of, answer_bodies, is_void, is_found, some_agrees, void_counted}
+use Rattle.spf_model.specs.Judging.{Site, at, naming, ask, ask_all, go_if, address_question, exchange_of, answer_bodies, is_void, is_found, some_agrees, void_counted}
 use Rattle.spf_model.specs.Check.{unless_matched}
 use Rattle.symbolic_check.specs.declared.gathered.Gathered.{Gathered}
 use Rattle.symbolic_check.specs.Walk.{Stretch}
@@ -17,16 +17,6 @@ use Rattle.symbolic_check.specs.Walk.{Stretch}
 -- whether an answer before them was void, and the answers of the hosts
 abbrev pub Found : Type 0
 Found = Bool × List Answer
-
--- RFC 7208, section 4.8: the name of hosts that a term asks for, once its lookup is counted
-abbrev pub naming : Site → ℕ → Option (List Piece) → Counts → (Labels → Run) → Run
-naming site t spec counts go =
-    with_target site t counts spec (λ text. with_name (Unsettled cause.Target (at site t)) counts (name_of text) go)
-
--- RFC 7208, sections 5.2 and 6.1: the domain whose record a term asks for, as a text and as a name, once its lookup is counted
-abbrev pub naming_target : Site → ℕ → List Piece → Counts → (List ℕ × Labels → Run) → Run
-naming_target site t spec counts go =
-    with_target site t counts (Some spec) (λ text. with_name (Perm cause.Missing (at site t)) counts (name_of text) (λ name. go (text, name)))
 
 -- RFC 7208, section 5.3: the answers of `a`
 abbrev pub gather_a : Site → ℕ → Option (List Piece) → Counts → (Found → Run) → Run

@@ -21,6 +21,7 @@ is_network (Mx spec len4 len6) = false
 is_network (Ptr spec) = false
 is_network (Exists spec) = false
 
+-- RFC 7208, sections 5.1 and 5.6: it matches this address
 abbrev pub network_covers : Mechanism → Address → Bool
 network_covers (Ip4 p) a = covers (net.V4 p) a
 network_covers (Ip6 p) a = covers (net.V6 p) a

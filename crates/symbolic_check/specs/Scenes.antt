@@ -7,12 +7,11 @@ use Rattle.spf_grammar.specs.declared.policy.Term.{Term}
 use Rattle.spf_model.specs.declared.outcome.Counts.{Counts}
 use Rattle.spf_model.specs.declared.outcome.Outcome.TheVariants.{Is}
 use Rattle.spf_model.specs.Run.{Run, Ends}
-use Rattle.spf_model.specs.Judging.{Judge, judge, is_pass, with_verdict}
+use Rattle.spf_model.specs.Judging.{Judge, judge, naming_target, is_pass, with_verdict}
 use Rattle.spf_model.specs.Check.{check, trying, tried, term_after, default, unless_matched}
 use Rattle.symbolic_check.specs.declared.scene.Scene.{Scene}
 use Rattle.symbolic_check.specs.declared.state.Purpose.{Purpose}
 use Rattle.symbolic_check.specs.declared.state.Purpose.TheVariants.{Include, Redirect}
-use Rattle.symbolic_check.specs.Hosts.{naming_target}
 use Rattle.symbolic_check.specs.Walk.{Stretch}
 use Rattle.symbolic_check.specs.Settling.{site_at}
 

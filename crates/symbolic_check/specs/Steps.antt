@@ -4,16 +4,18 @@ use Rattle.spf_grammar.specs.declared.verdict.Verdict.{Verdict}
 use Rattle.spf_grammar.specs.declared.verdict.Verdict.TheVariants.{Neutral}
 use Rattle.spf_model.specs.declared.outcome.Counts.{Counts}
 use Rattle.spf_model.specs.Judging.{is_pass}
+pub use Rattle.spf_model.specs.Leads.{required}
 use Rattle.spf_model.specs.declared.outcome.Limits.{Limits}
 use Rattle.spf_model.specs.declared.outcome.Cause.TheVariants as cause
 use Rattle.spf_model.specs.declared.outcome.Place.{Place}
 use Rattle.spf_model.specs.declared.outcome.Outcome.{Outcome}
-use Rattle.spf_model.specs.declared.outcome.Outcome.TheVariants.{Nothing, Is, Perm, Temp, Unsettled}
+use Rattle.spf_model.specs.declared.outcome.Outcome.TheVariants.{Is, Perm}
 use Rattle.symbolic_check.specs.declared.state.State.{State}
 use Rattle.symbolic_check.specs.declared.state.Purpose.{Purpose}
 use Rattle.symbolic_check.specs.declared.state.Purpose.TheVariants.{Include, Redirect}
 use Rattle.symbolic_check.specs.declared.state.State.TheVariants.{Live, Decided, Failed}
 
+-- no directive has matched so far, and the evaluation goes on
 abbrev pub is_live : State → Bool
 is_live (Live counts) = true
 is_live (Decided verdict counts) = false
@@ -58,20 +60,13 @@ abbrev pub used : Purpose → Verdict → Counts → State
 used (Include verdict) found counts = if is_pass found then Decided verdict counts else Live counts
 used Redirect found counts = Decided found counts
 
--- RFC 7208, sections 5.2 and 6.1: that this record does not exist is an error of the term
-abbrev pub required : Place → Outcome → Outcome
-required place (Nothing there) = Perm cause.Missing place
-required place (Is verdict) = Is verdict
-required place (Perm cause there) = Perm cause there
-required place (Temp cause there) = Temp cause there
-required place (Unsettled cause there) = Unsettled cause there
-
 -- what stands after this record is evaluated, whose evaluation leaves no address live
 abbrev pub from_target : Place → Purpose → State → State
 from_target place purpose (Live counts) = Live counts
 from_target place purpose (Decided found counts) = used purpose found counts
 from_target place purpose (Failed outcome) = Failed (required place outcome)
 
+-- RFC 7208, sections 5.2 and 6.1: a term that asks for a record, at the end of which this stands
 abbrev pub after_target : Place → Purpose → State → State → State
 after_target place purpose inner (Live counts) = from_target place purpose inner
 after_target place purpose inner (Decided verdict counts) = Decided verdict counts

@@ -20,7 +20,9 @@ use zone_answers::{Questions, Zones};
 /// The outcome of every address, as a trie for each family.
 #[derive(Drop)]
 pub struct Both {
+    /// The outcome at each IPv4 address.
     pub v4: TrieMap<u32, Outcome>,
+    /// The outcome at each IPv6 address.
     pub v6: TrieMap<u128, Outcome>,
     /// Each question that the evaluation of some address asks, once, by the bytes of the printed name and then by A, AAAA, MX,
     /// TXT.
@@ -70,6 +72,6 @@ pub fn evaluate(
     let mut asked = Questions::new(alloc);
     let v4 = scene.outcomes(&mut asked)?;
     let v6 = scene.outcomes(&mut asked)?;
-    let asked = in_order(alloc, &asked)?;
+    let asked = in_order(alloc, asked)?;
     Ok(Both { v4, v6, asked })
 }

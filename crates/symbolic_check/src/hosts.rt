@@ -95,7 +95,7 @@ impl Scene<'_> {
         let place = self.place(term);
         let void = is_void(&found);
         let counted = steps::count_voids(self.alloc, states, self.limits, &place, void)?;
-        steps::match_all(self.alloc, counted, verdict, is_found(&found))
+        steps::match_all(self.alloc, &counted, verdict, is_found(&found))
     }
 
     /// `a` with its verdict (RFC 7208, section 5.3).
@@ -172,10 +172,9 @@ impl Scene<'_> {
         &self,
         term: u32,
         states: States<W>,
-        asked: &mut Questions,
     ) -> Result<States<W>, AllocError>
-        ensures { IfOk result (λ new. (depth : ℕ) (verdict : Given) (spec : Option (List Piece)) → Walks W.BITS (says self.now.zones.now)
-            (term_stretch W.address self.now depth term (Directive verdict (mechanism.Ptr spec))) states new asked.old asked.new) }
+        ensures { IfOk result (λ new. (asked : List Asked) (depth : ℕ) (verdict : Given) (spec : Option (List Piece)) → Walks W.BITS (says self.now.zones.now)
+            (term_stretch W.address self.now depth term (Directive verdict (mechanism.Ptr spec))) states new asked asked) }
     {
         let counted = self.count_lookup(term, &states)?;
         let open = Outcome::Unsettled(Cause::Reverse, self.place(term));

@@ -16,4 +16,4 @@ mod tests;
 mod walk;
 
 pub use both::{Both, evaluate};
-pub use laws::{follows_twice, rests_on_asked, walks_twice};
+pub use laws::rests_on_asked;

@@ -10,7 +10,6 @@ ghost use Rattle.spf_model.specs.declared.outcome.Outcome.TheVariants as outcome
 ghost use Rattle.spf_model.specs.declared.outcome.Cause.TheVariants as cause;
 ghost use Rattle.zone_answers.specs.declared.answer.Question.{Question as Asked};
 ghost use Rattle.symbolic_check.specs.Settling.{site_at, Settles};
-ghost use Rattle.symbolic_check.specs.Hosts as hosts;
 
 use crate::networks::FamilyWidth;
 use addr_bits::Bytes;
@@ -102,7 +101,7 @@ impl Scene<'_> {
     ) -> Result<Name, Halt>
         requires { TargetFits (option_map (λ s. s.now) spec) }
         ensures { (asked : List Asked) → Settles (says self.now.zones.now)
-            (λ a counts. hosts.naming (site_at self.now (W.address a)) term (option_map (λ s. s.now) spec.entry) counts) asked asked result }
+            (λ a counts. judging.naming (site_at self.now (W.address a)) term (option_map (λ s. s.now) spec.entry) counts) asked asked result }
     {
         let text = self.target_text::<W>(term, spec)?;
         match name_of(text.as_slice()) {
@@ -120,7 +119,7 @@ impl Scene<'_> {
     ) -> Result<(Bytes, Name), Halt>
         requires { TargetFits (Some spec.now) }
         ensures { (asked : List Asked) → Settles (says self.now.zones.now)
-            (λ a counts. hosts.naming_target (site_at self.now (W.address a)) term spec.now counts) asked asked result }
+            (λ a counts. judging.naming_target (site_at self.now (W.address a)) term spec.now counts) asked asked result }
     {
         let text = self.target_text::<W>(term, Some(spec))?;
         match name_of(text.as_slice()) {

@@ -72,22 +72,19 @@ pub(crate) fn fail<W: Width>(
     )
 }
 
-/// A directive that matches every address, or none (RFC 7208, section 4.6.2). Mostly none is live after a row of networks.
+/// A directive that matches every address, or none (RFC 7208, section 4.6.2).
 pub(crate) fn match_all<W: Width>(
     alloc: Global,
-    states: States<W>,
+    states: &States<W>,
     verdict: Verdict,
     matches: bool,
 ) -> Result<States<W>, AllocError>
-    ensures { IfOk result (λ new. StepsAt W.BITS (λ a. step.after_match verdict matches) states new) }
+    ensures { IfOk result (λ new. StepsAt W.BITS (λ a. step.after_match verdict matches) states.now new) }
 {
-    if !is_some_live(&states) {
-        return Ok(states);
-    }
     TrieMap::combine(
         alloc,
-        &states,
-        &states,
+        states,
+        states,
         |state, _| state.after_match(verdict, matches),
     )
 }

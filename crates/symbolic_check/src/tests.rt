@@ -739,7 +739,5 @@ fn questions(rt: HostRuntime) -> Result<(), Fail> {
 
 #[test]
 fn laws() {
-    follows_twice();
-    walks_twice();
     rests_on_asked();
 }

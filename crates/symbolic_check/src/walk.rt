@@ -136,9 +136,6 @@ impl Scene<'_> {
         ensures { IfOk result (λ new. Walks W.BITS (says self.now.zones.now)
             (target_stretch W.address self.now depth term spec.now purpose) states new asked.old asked.new) }
     {
-        if !steps::is_some_live(&states) {
-            return Ok(states);
-        }
         let place = self.place(term);
         let entered = steps::enter(self.alloc, &states, self.limits, &place)?;
         let found = self.reach_target(depth, term, spec, entered, asked)?;
@@ -185,11 +182,11 @@ impl Scene<'_> {
                 self.walk_mx(number, *verdict, spec.as_ref(), lens, states, asked)
             }
             Mechanism::Exists(spec) => self.walk_exists(number, *verdict, spec, states, asked),
-            Mechanism::Ptr(_) => self.walk_ptr(number, states, asked),
+            Mechanism::Ptr(_) => self.walk_ptr(number, states),
         }
     }
 
-    /// The terms of the record. Records below them are nested so deep.
+    /// The terms of the record, up to the one at which no address is live. Records below them are nested so deep.
     #[cycle(walk)]
     pub(crate) fn walk_terms<W: FamilyWidth>(
         &self,
@@ -208,6 +205,9 @@ impl Scene<'_> {
         for index in 0..terms.len() {
             if !is_row_term(&terms[index]) {
                 let passed = self.pass_row(terms, start, index, walked)?;
+                if !steps::is_some_live(&passed) {
+                    return Ok(passed);
+                }
                 walked = self.walk_term(depth, number, &terms[index], passed, asked)?;
                 start = index + 1;
             }
@@ -216,7 +216,7 @@ impl Scene<'_> {
         self.end_row(terms, start, walked)
     }
 
-    /// What comes where no directive of the record matches (RFC 7208, sections 4.7 and 6.1).
+    /// What comes where no directive of the record matches (RFC 7208, sections 4.7 and 6.1). Mostly no address is live here.
     #[cycle(walk)]
     fn walk_default<W: FamilyWidth>(
         &self,
@@ -229,11 +229,14 @@ impl Scene<'_> {
         ensures { IfOk result (λ new. Walks W.BITS (says self.now.zones.now)
             (default_stretch W.address self.now depth (redirect_from 1 terms.now)) states new asked.old asked.new) }
     {
+        if !steps::is_some_live(&states) {
+            return Ok(states);
+        }
         match redirect_of(terms) {
             Some((term, spec)) => {
                 self.walk_target(depth, term, spec, Purpose::Redirect, states, asked)
             }
-            None => steps::match_all(self.alloc, states, Verdict::Neutral, true),
+            None => steps::match_all(self.alloc, &states, Verdict::Neutral, true),
         }
     }
 

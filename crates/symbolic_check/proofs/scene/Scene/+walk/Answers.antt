@@ -1,13 +1,14 @@
 use Rattle.std.proofs.Common.{subst, sym, ◌∙◌, arith, List}
 use Rattle.spf_grammar.specs.declared.policy.Term.{Term}
 use Rattle.spf_model.specs.Run.{says}
+use Rattle.spf_model.specs.Check.{redirect_from}
 use Rattle.spf_model.specs.Leads.{TermsFit}
 use Rattle.spf_model.proofs.Terms.{redirect_fits}
-use Rattle.symbolic_check.specs.Scenes.{target_stretch, reached_stretch}
+use Rattle.symbolic_check.specs.Scenes.{reached_stretch, default_stretch}
 use Rattle.symbolic_check.proofs.Settling.{walks_idle}
-use Rattle.symbolic_check.proofs.Rows.{walked_none, walked_row, walked_term, walked_all, row_left}
+use Rattle.symbolic_check.proofs.Rows.{walked_none, walked_row, walked_term, walked_idle, walked_all, row_left}
 use Rattle.symbolic_check.proofs.Records.{target_used, reached_stopped, reached_entered, row_walked, include_walked, include_fits, fit_at, redirect_walked, neutral_walked, too_deep, record_stopped, record_walked}
-use Rattle.symbolic_check.proofs.scene.Scene.+walk.Goals.{walk_terms-then-not-is_row_term+in_ok-passed+in_ok-walked, walk_terms-else-not-is_row_term}
+use Rattle.symbolic_check.proofs.scene.Scene.+walk.Goals.{walk_terms-then-not-is_row_term+in_ok-passed+else-not-is_some_live+in_ok-walked, walk_terms-else-not-is_row_term}
 use Rattle.symbolic_check.proofs.scene.Scene.+walk.Goals as goal
 
 -- ---- the record that a term asks for
@@ -31,11 +32,6 @@ reach_target-returns-in-Err-Ended g t c =
     reached_stopped g.W.Width.BITS (says c.args.self.now.zones.now) g.W.FamilyWidth.address c.args.self.now c.args.depth c.args.term c.args.spec.now
     c.in-Err-Ended.outcome c.args.states c.args.asked.now c.fail.result
     (rw c.if-not-is_some_live.false at c.is_some_live.ensures) (rw c.in-Err-Ended.field-0-is at c.in-Err-Ended.ensures c.args.asked.now) c.fail.ensures
-
-pub walk_target-returns-then-not-is_some_live : goal.walk_target-returns-then-not-is_some_live
-walk_target-returns-then-not-is_some_live g t c =
-    walks_idle g.W.Width.BITS (says c.args.self.now.zones.now) (target_stretch g.W.FamilyWidth.address c.args.self.now c.args.depth c.args.term c.args.spec.now c.args.purpose)
-    c.args.states c.args.asked.now (rw c.if-not-is_some_live.true at c.is_some_live.ensures)
 
 pub walk_target-reach_target-requires : goal.walk_target-reach_target-requires
 walk_target-reach_target-requires g t c κs within = (omega (arith, c.decreases), (within, c.requires))
@@ -80,6 +76,12 @@ walk_terms-pass_row-requires g t c = record {
   row = c.loop-index.invariant.1.row;
 }
 
+pub walk_terms-returns-then-not-is_some_live : goal.walk_terms-returns-then-not-is_some_live
+walk_terms-returns-then-not-is_some_live g t c =
+    walked_idle g.W.Width.BITS (says c.args.self.now.zones.now) g.W.FamilyWidth.address c.args.self.now c.args.depth c.args.terms.now c.args.states c.args.asked.now
+    c.loop-index.start c.loop-index.index c.loop-index.number c.loop-index.walked c.in_ok-passed.passed c.loop-index.asked
+    c.loop-index.invariant.1 c.in_ok-passed.ensures (rw c.if-not-is_some_live.true at c.is_some_live.ensures)
+
 pub walk_terms-walk_term-requires : goal.walk_terms-walk_term-requires
 walk_terms-walk_term-requires g t c κs within =
     (omega (arith, c.decreases), (within, fit_at c.args.terms.now c.loop-index.index c.index-terms-index-then-not-is_row_term.result c.loop-index-test.true c.requires c.index-terms-index-then-not-is_row_term.is))
@@ -88,7 +90,7 @@ pub walk_terms-loop-index-preserved : goal.walk_terms-loop-index-preserved
 walk_terms-loop-index-preserved g t c = (
   omega (arith, c.loop-index-test.true),
   rw c.saturating_add-number.ensures (elim c.if-not-is_row_term.branch [
-    | walk_terms-then-not-is_row_term+in_ok-passed+in_ok-walked w ↦ rw (w.asked-is, w.walked-is, w.start-is)
+    | walk_terms-then-not-is_row_term+in_ok-passed+else-not-is_some_live+in_ok-walked w ↦ rw (w.asked-is, w.walked-is, w.start-is)
         (walked_term g.W.Width.BITS (says c.args.self.now.zones.now) g.W.FamilyWidth.address c.args.self.now c.args.depth c.args.terms.now c.args.states c.args.asked.now
         c.loop-index.start c.loop-index.index c.loop-index.number c.loop-index.walked w.in_ok-passed.passed w.in_ok-walked.walked c.loop-index.asked w.walk_term.new.asked
         w.index-terms-index-then-not-is_row_term.result c.loop-index.invariant.1 c.loop-index-test.true w.index-terms-index-then-not-is_row_term.is
@@ -113,6 +115,11 @@ walk_terms-returns g t c =
     c.loop-index.start c.loop-index.index c.loop-index.number c.loop-index.walked c.loop-index.asked c.end_row.result c.loop-index.invariant.1 c.end_row.ensures
 
 -- ---- a record
+
+pub walk_default-returns-then-not-is_some_live : goal.walk_default-returns-then-not-is_some_live
+walk_default-returns-then-not-is_some_live g t c =
+    walks_idle g.W.Width.BITS (says c.args.self.now.zones.now) (default_stretch g.W.FamilyWidth.address c.args.self.now c.args.depth (redirect_from 1 c.args.terms.now))
+    c.args.states c.args.asked.now (rw c.if-not-is_some_live.true at c.is_some_live.ensures)
 
 pub walk_default-walk_target-requires : goal.walk_default-walk_target-requires
 walk_default-walk_target-requires g t c κs within =

@@ -10,7 +10,7 @@ use Rattle.symbolic_check.proofs.scene.Scene.gather_exchanges.Goals as goal
 
 pub returns : goal.returns
 returns g c =
-    let e = ap (map (λ (name : Bor Name). name.now)) c.as_slice-hosts.ensures.value ∙ c.in_ok-exchanges.ensures ∙ ap (λ (bodies : List Body). filter_map exchange_of bodies) c.bodies_of.ensures in
+    let e = ap (map (λ (name : Bor Name). name.now)) c.as_slice-hosts.ensures.value ∙ c.in_ok-exchanges.ensures ∙ ap (λ (bodies : List Body). filter_map exchange_of bodies) c.bodies.ensures in
     let n = sym (length-map c.as_slice-hosts.result.now (λ (name : Bor Name). name.now)) ∙ ap length e in
     few_enough (says c.args.self.now.zones.now) c.args.self.now g.W.FamilyWidth.address c.args.term c.args.found.now c.gather_hosts.result c.args.asked.now c.gather_hosts.new.asked
     (subst (λ (k : ℕ). k ≤ c.args.self.now.limits.exchanges) n c.if-hosts-self.false)

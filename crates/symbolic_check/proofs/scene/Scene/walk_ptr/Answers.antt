@@ -5,6 +5,6 @@ use Rattle.symbolic_check.proofs.scene.Scene.walk_ptr.Goals as goal
 
 pub returns : goal.returns
 returns g c = if_ok_by _ c.fail.result c.fail.ensures
-    (λ new steps depth verdict spec.
-    ptr_walk g.W.Width.BITS (says c.args.self.now.zones.now) c.args.self.now g.W.FamilyWidth.address depth c.args.term verdict spec c.place.result c.args.states c.in_ok-counted.counted new c.args.asked.now
-    (c.in_ok-counted.ensures c.args.asked.now) c.place.ensures steps)
+    (λ new steps asked depth verdict spec.
+    ptr_walk g.W.Width.BITS (says c.args.self.now.zones.now) c.args.self.now g.W.FamilyWidth.address depth c.args.term verdict spec c.place.result c.args.states c.in_ok-counted.counted new asked
+    (c.in_ok-counted.ensures asked) c.place.ensures steps)
