@@ -1,6 +1,5 @@
 -- Questions by their keys.
-use Rattle.std.proofs.Math.Seq.{take-suc}
-use Rattle.std.proofs.Common.{◌≡◌, ℕ, ◌+◌, ◌<◌, ◌↔◌, ◌⊎◌, inl, inr, List, [], ◌∷◌, ◌++◌, length, get_or, take, add-one, refl, sym, ap, ap₂, subst, ◌∙◌, Contains, arith}
+use Rattle.std.proofs.Common.{◌≡◌, ℕ, ◌+◌, ◌<◌, ◌↔◌, ◌⊎◌, inl, inr, List, [], ◌∷◌, ◌++◌, refl, sym, ap, ap₂, subst, ◌∙◌, Contains, arith}
 use Rattle.std.proofs.lemmas.Cmp.{ranked}
 use Rattle.std.proofs.lemmas.List.Elements.{Contains-push, Contains-push_cases, Contains-append_left, Contains-append_right, Contains-append_cases}
 use Rattle.std.proofs.lemmas.Map.Keys.{sorted_head, sorted_tail}
@@ -148,30 +147,19 @@ inserted (e ∷ es) k q key keyed =
     placed (key_order.cmp-value.it k e.0) k q e es (insert_entry key_order.cmp-value.it es k q) key keyed
     (λ equal. sym (one_question q e.1 k e.0 key keyed.0 equal)) below.0 below.1
 
--- one more of a list is taken up
-pub more_taken : (asked : List Question) (i : ℕ) (q x : Question) → i < length asked → q ≡ get_or asked i q
-    → Contains (take (i + 1) asked) x ↔ (Contains (take i asked) x ⊎ (q ≡ x))
-more_taken asked i q x below is = subst (λ xs. Contains xs x ↔ (Contains (take i asked) x ⊎ (q ≡ x))) (sym grown) (
-  λ h. Contains-push_cases (take i asked) q x h,
-  λ h. elim h [
-    | inl old ↦ Contains-append_left (take i asked) (q ∷ []) x old
-    | inr new ↦ subst (λ y. Contains (take i asked ++ q ∷ []) y) new (Contains-push (take i asked) q)
-  ],
-)
-  where
-    grown : take (i + 1) asked ≡ take i asked ++ q ∷ []
-    grown = rw (add-one) (take-suc asked i q below) ∙ ap (λ (y : Question). take i asked ++ y ∷ []) (sym is)
-
-pub put_more : (old new : List (Key × Question)) (k : Key) (q own : Question) (asked : List Question) (i : ℕ)
-    → new ≡ insert_entry key_order.cmp-value.it old k own → own ≡ q → IsKeyOf q k → i < length asked → q ≡ get_or asked i q → AreKeyed old
-    → ((x : Question) → Contains (values_of old) x ↔ Contains (take i asked) x)
-    → AreKeyed new × ((x : Question) → Contains (values_of new) x ↔ Contains (take (i + 1) asked) x)
-put_more old new k q own asked i e same key below is keyed so_far =
-    let put = inserted old k q key keyed in
-    let made : new ≡ insert_entry key_order.cmp-value.it old k q = e ∙ ap (λ (p : Question). insert_entry key_order.cmp-value.it old k p) same in (
+-- one more of the questions is taken up
+pub put_more : (old new : List (Key × Question)) (k : Key) (q : Question) (taken : List Question)
+    → new ≡ insert_entry key_order.cmp-value.it old k q → IsKeyOf q k → AreKeyed old
+    → ((x : Question) → Contains (values_of old) x ↔ Contains taken x)
+    → AreKeyed new × ((x : Question) → Contains (values_of new) x ↔ Contains (taken ++ q ∷ []) x)
+put_more old new k q taken made key keyed so_far =
+    let put = inserted old k q key keyed in (
       subst AreKeyed (sym made) put.0,
-      λ x. let taken = more_taken asked i q x below is in subst (λ entries. Contains (values_of entries) x ↔ Contains (take (i + 1) asked) x) (sym made) (
-        λ h. taken.1 (elim ((put.1 x).0 h) [ inl before ↦ inl ((so_far x).0 before) | inr new ↦ inr new ]),
-        λ h. (put.1 x).1 (elim (taken.0 h) [ inl before ↦ inl ((so_far x).1 before) | inr new ↦ inr new ]),
+      λ x. subst (λ entries. Contains (values_of entries) x ↔ Contains (taken ++ q ∷ []) x) (sym made) (
+        λ h. elim ((put.1 x).0 h) [
+          | inl before ↦ Contains-append_left taken (q ∷ []) x ((so_far x).0 before)
+          | inr new ↦ subst (λ y. Contains (taken ++ q ∷ []) y) new (Contains-push taken q)
+        ],
+        λ h. (put.1 x).1 (elim (Contains-push_cases taken q x h) [ inl before ↦ inl ((so_far x).1 before) | inr same ↦ inr same ]),
       ),
     )

@@ -3,7 +3,7 @@ ghost use Rattle.std.specs.Prelude.{◌≡◌, ◌↔◌, IfOk, Contains};
 ghost use Rattle.std.specs.Map.{values_of};
 ghost use Rattle.spf_model.specs.Result.{IsInOrder, kind_number};
 ghost use Rattle.zone_answers.specs.declared.answer.Question.{Question as Asked};
-ghost use Rattle.symbolic_check.specs.Keyed.{IsKeyOf, AreKeyed};
+ghost use Rattle.symbolic_check.specs.Keyed.{IsKeyOf};
 
 use std::alloc::{AllocError, Global};
 use std::collections::BTreeMap;
@@ -43,26 +43,15 @@ fn key_of(alloc: Global, question: &Question) -> Result<Key, AllocError>
     })
 }
 
-/// The same question once more.
-fn again(question: &Question) -> Question
-    ensures { result ≡ question.now }
-{
-    Question {
-        name: question.name.clone().unwrap(),
-        kind: question.kind,
-    }
-}
-
 /// The questions by their keys.
-fn by_key(alloc: Global, asked: &[Question]) -> Result<BTreeMap<Key, Question>, AllocError>
-    ensures keyed { IfOk result (λ found. AreKeyed found.entries) }
-    ensures same { IfOk result (λ found. (question : Asked) → Contains (values_of found.entries) question ↔ Contains asked.now question) }
+fn by_key(alloc: Global, asked: Questions) -> Result<BTreeMap<Key, Question>, AllocError>
+    ensures order { IfOk result (λ found. IsInOrder (values_of found.entries)) }
+    ensures same { IfOk result (λ found. (question : Asked) → Contains (values_of found.entries) question ↔ Contains asked question) }
 {
     let mut found = BTreeMap::new(alloc);
-    for i in 0..asked.len() {
-        let question = &asked[i];
-        let key = key_of(alloc, question)?;
-        found.insert(key, again(question))?;
+    for question in asked.into_vec() {
+        let key = key_of(alloc, &question)?;
+        found.insert(key, question)?;
     }
     Ok(found)
 }
@@ -79,11 +68,10 @@ fn in_turn(alloc: Global, mut found: BTreeMap<Key, Question>) -> Result<Question
 }
 
 /// The questions, each once, by the bytes of the printed name and then by A, AAAA, MX, TXT.
-pub(crate) fn in_order(alloc: Global, asked: &Questions) -> Result<Questions, AllocError>
+pub(crate) fn in_order(alloc: Global, asked: Questions) -> Result<Questions, AllocError>
     ensures order { IfOk result IsInOrder }
-    ensures same { IfOk result (λ questions. (question : Asked) → Contains questions question ↔ Contains asked.now question) }
+    ensures same { IfOk result (λ questions. (question : Asked) → Contains questions question ↔ Contains asked question) }
 {
-    let found = by_key(alloc, asked.as_slice())?;
-    let _count = found.len();
+    let found = by_key(alloc, asked)?;
     in_turn(alloc, found)
 }

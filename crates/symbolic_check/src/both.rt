@@ -72,6 +72,6 @@ pub fn evaluate(
     let mut asked = Questions::new(alloc);
     let v4 = scene.outcomes(&mut asked)?;
     let v6 = scene.outcomes(&mut asked)?;
-    let asked = in_order(alloc, &asked)?;
+    let asked = in_order(alloc, asked)?;
     Ok(Both { v4, v6, asked })
 }
