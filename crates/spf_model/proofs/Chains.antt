@@ -18,7 +18,7 @@ use Rattle.spf_model.specs.declared.outcome.Cause.TheVariants as cause
 use Rattle.spf_model.specs.declared.outcome.Outcome.TheVariants.{Is, Perm}
 use Rattle.spf_model.specs.Run.{Run, Ends, Answering, EndsWith, then_do}
 use Rattle.spf_model.specs.Judging.{Labels, Site, Sub, at, name_of, judge, go_if, judged_by, with_name, with_target, with_text, with_verdict}
-use Rattle.spf_model.specs.Check.{check, default, evaluated, redirect_from, term_after, tried, unless_matched, with_answer, with_policy, with_texts}
+use Rattle.spf_model.specs.Check.{check, default, evaluated, redirect_from, term_after, tried, unless_matched, with_answer, with_texts}
 use Rattle.spf_model.specs.Chains.{all_terms, directives_of, mechanism_of, redirect_terms, IsChain, LeadsOn, StandsAt, GivesFlat}
 use Rattle.spf_model.specs.Laws.{ChainsGiveFirst}
 use Rattle.spf_model.proofs.RunLaws.{ends_after}
