@@ -6,6 +6,7 @@
     generate.py records N       N records: a policy that asks for four names, and hosts with one address each
     generate.py addresses N     a policy that asks for one host, and N addresses of this host
     generate.py exchanges N     a policy with an `mx` term, and N exchanges, each with an address of both families
+    generate.py terms N         a record of 1,600 random networks, and N terms `a` behind them
 """
 import ipaddress, sys
 M64 = (1 << 64) - 1
@@ -41,7 +42,11 @@ def addresses(n):
 def exchanges(n):
     print('@ TXT "v=spf1 mx -all"')
     for k in range(n): print('@ MX 10 h%d\nh%d A %s\nh%d AAAA %s' % (k, k, host4(k), k, host6(k)))
-MODES = {'zone': (zone, 2), 'comment': (comment, 1), 'records': (records, 1), 'addresses': (addresses, 1), 'exchanges': (exchanges, 1)}
+def terms(n):
+    nets = [term(q, b, a, l) for (i, q, b, a, l), _ in zip((d for d in draws(0) if d[2] == 32), range(1600))]
+    print('@ TXT %s' % quoted(' '.join(['v=spf1'] + nets + ['a'] * n + ['-all'])))
+    print('@ A %s' % host4(0))
+MODES = {'zone': (zone, 2), 'comment': (comment, 1), 'records': (records, 1), 'addresses': (addresses, 1), 'exchanges': (exchanges, 1), 'terms': (terms, 1)}
 if __name__ == '__main__':
     mode, count = MODES.get(sys.argv[1] if len(sys.argv) > 1 else '', (None, 0))
     if mode is None or len(sys.argv) != 2 + count: sys.exit(__doc__)
