@@ -1,5 +1,5 @@
 -- The words of a chain of records, taken in lower case.
-use Rattle.std.proofs.Common.{◌≡◌, ℕ, ◌-◌, ◌≤◌, zero, suc, ◌==◌, Bool, true, not, ◌&&◌, ◌||◌, IsTrue, List, [], ◌∷◌, codes, length, map, refl, sym, ap, ap₂, subst, ◌∙◌, arith}
+use Rattle.std.proofs.Common.{◌≡◌, ℕ, ◌-◌, ◌≤◌, zero, suc, ◌==◌, Bool, true, not, ◌&&◌, ◌||◌, IsTrue, List, [], ◌∷◌, codes, length, map, refl, sym, ap, ap₂, subst, ◌∙◌, arith, lit≤}
 use Rattle.std.specs.Prelude.{nat_le, slice_index}
 use Rattle.std.specs.List.{list_all, list_any, slice_split}
 use Rattle.std.specs.Char.{is_ascii_alphabetic, is_ascii_digit, to_ascii_lowercase}
@@ -12,7 +12,7 @@ use Rattle.spf_macros.specs.Grammar.{is_let_dig_hyp, is_toplabel}
 use Rattle.spf_macros.specs.Words.{is_word_byte, is_domain_label, last_label, is_domain, is_label}
 use Rattle.spf_model.specs.declared.outcome.Limits.{Limits}
 use Rattle.spfc_words.specs.declared.zone_word.ZoneWord.{ZoneWord}
-use Rattle.spfc_words.specs.Options.{IsNumber, IsOption, IsLabelText, values_of}
+use Rattle.spfc_words.specs.Options.{IsNumber, IsOption, IsLabelText, settings_in, values_of, is_compile_option}
 use Rattle.spfc_words.specs.Words.{IsCompiled}
 use Rattle.dns_name.proofs.Texts.{byte_lower, split_lower, test_lower}
 

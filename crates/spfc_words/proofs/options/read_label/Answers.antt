@@ -1,5 +1,8 @@
-use Rattle.std.proofs.Common.{ℕ, List, MatchOption, codes, subst}
-use Rattle.spfc_words.specs.Options.{IsLabelText, IsOption, values_of}
+use Rattle.std.proofs.Common.{ℕ, List, MatchOption, codes, sym, subst}
+use Rattle.std.specs.Str.{str_to_ascii_lowercase}
+use Rattle.spfc_words.specs.Options as options
+use Rattle.spfc_words.specs.Options.{IsLabelText, IsOption, settings_in, values_of}
+use Rattle.spfc_words.specs.Words.{texts}
 use Rattle.spfc_words.proofs.Settings.{several}
 use Rattle.spfc_words.proofs.options.read_label.Goals as goal
 
