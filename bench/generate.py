@@ -3,7 +3,7 @@
 
     generate.py zone START N    a policy, and eight lists of N random networks in all, which it includes
     generate.py comment N       N bytes `;`, which are no record
-    generate.py records N       N records: a policy that asks for four names, and hosts with one address each
+    generate.py records N       N records: a policy that asks for two hosts, and hosts with one address each
     generate.py addresses N     a policy that asks for one host, and N addresses of this host
     generate.py exchanges N     a policy with an `mx` term, and N exchanges, each with an address of both families
     generate.py terms N         a record of 1,600 random networks, and N terms `a` behind them
@@ -34,7 +34,7 @@ def zone(start, n):
     for k in range(8): print('n%d TXT %s' % (k, quoted(' '.join(['v=spf1'] + rec[k] + ['?all']))))
 def comment(n): sys.stdout.write(';' * n)
 def records(n):
-    print('@ TXT "v=spf1 a:h0.trial.example a:h1.trial.example a:h2.trial.example -all"')
+    print('@ TXT "v=spf1 a:h0.trial.example a:h1.trial.example -all"')
     for k in range(n - 1): print('h%d A %s' % (k, host4(k)))
 def addresses(n):
     print('@ TXT "v=spf1 a:h.trial.example -all"')
