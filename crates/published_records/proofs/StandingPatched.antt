@@ -18,12 +18,12 @@ use Rattle.spf_model.specs.Run.{says}
 use Rattle.record_pack.specs.Records.{record_text}
 use Rattle.zone_writer.specs.Fragment.{is_none}
 use Rattle.zone_writer.specs.Written.{record_owner, written_records}
-use Rattle.spfc_top.specs.Chain.{Holds}
-use Rattle.spfc_top.specs.Standing.{RecordsStandPatched, is_holder, is_spf_record, patched, patched_zone}
-use Rattle.spfc_top.proofs.StandingFound.{IsPlain, cuts, holds, txt_record}
-use Rattle.spfc_top.proofs.StandingLists.{all_kept, all_weaker, each_false, none_found}
-use Rattle.spfc_top.proofs.StandingRecords.{HoldAt, hold_all, owner_first, owner_later, written_uncut}
-use Rattle.spfc_top.proofs.StandingTexts.{record_is_spf}
+use Rattle.published_records.specs.Chain.{Holds}
+use Rattle.published_records.specs.Standing.{RecordsStandPatched, is_holder, is_spf_record, patched, patched_zone}
+use Rattle.published_records.proofs.StandingFound.{IsPlain, cuts, holds, txt_record}
+use Rattle.published_records.proofs.StandingLists.{all_kept, all_weaker, each_false, none_found}
+use Rattle.published_records.proofs.StandingRecords.{HoldAt, hold_all, owner_first, owner_later, written_uncut}
+use Rattle.published_records.proofs.StandingTexts.{record_is_spf}
 
 -- ---- zones that keep their origins
 

@@ -21,11 +21,11 @@ use Rattle.spf_model.specs.Run.{says}
 use Rattle.record_pack.specs.Records.{Fits, RecordsFit, pieces_from, piece, record_name, record_text}
 use Rattle.zone_writer.specs.Fragment.{is_none, strings_of}
 use Rattle.zone_writer.specs.Written.{record_owner, written_records}
-use Rattle.spfc_top.specs.Standing.{RecordsStandAlone}
-use Rattle.spfc_top.proofs.StandingFound.{holds}
-use Rattle.spfc_top.proofs.StandingLists.{all_kept, all_mapped}
-use Rattle.spfc_top.proofs.StandingRecords.{HoldAt, hold_all, longer, owner_first, owner_later, written_uncut}
-use Rattle.spfc_top.proofs.StandingTexts.{record_is_spf, text_fits}
+use Rattle.published_records.specs.Standing.{RecordsStandAlone}
+use Rattle.published_records.proofs.StandingFound.{holds}
+use Rattle.published_records.proofs.StandingLists.{all_kept, all_mapped}
+use Rattle.published_records.proofs.StandingRecords.{HoldAt, hold_all, longer, owner_first, owner_later, written_uncut}
+use Rattle.published_records.proofs.StandingTexts.{record_is_spf, text_fits}
 
 -- ---- the zone
 

@@ -1,17 +1,19 @@
 -- Records that stand at their names are a chain.
-use Rattle.std.proofs.Common.{◌≡◌, ℕ, suc, ◌+◌, ◌<◌, ◌≤◌, ◌==◌, Bool, true, false, cond, ◌&&◌, IsTrue, Ok, Err, Result, List, [], ◌∷◌, ◌++◌, length, map, refl, sym, ap, subst, ◌∙◌, arith, Option, Some, None, ne_eqb, length-append, ap₂, true≢false}
+use Rattle.std.proofs.Common.{◌≡◌, ℕ, suc, ◌+◌, ◌<◌, ◌≤◌, ◌==◌, Bool, true, false, cond, ◌&&◌, IsTrue, Ok, Err, Result, List, [], ◌∷◌, ◌++◌, length, map, bytes_eq, refl, sym, ap, subst, ◌∙◌, arith, Option, Some, None, ne_eqb, length-append, ap₂, true≢false}
 use Rattle.std.specs.Prelude.{nat_le, decimal}
 use Rattle.std.specs.List.{list_all, slice_split, All}
 use Rattle.std.specs.Char.{to_ascii_lowercase, is_ascii_digit}
 use Rattle.std.proofs.lemmas.Bool.{and_parts, and_from, or_left, or_right, leb-true}
 use Rattle.std.proofs.lemmas.Str.Ascii.{lowercase_is}
+use Rattle.std.proofs.lemmas.Slice.Eq.{bytes_eq-Decides}
 use Rattle.std.proofs.lemmas.Fmt.{decimal_digit, decimal_step, length-decimal-le}
 use Rattle.std.proofs.lemmas.List.{map-append}
 use Rattle.std.proofs.lemmas.List.Elements.{All-nil, All-cons}
 use Rattle.std.proofs.lemmas.List.Splits.{slice_split_at}
 use Rattle.dns_name.proofs.Names.{no_fault_from_label}
 use Rattle.dns_name.specs.declared.fault.NameFault.{NameFault}
-use Rattle.dns_name.specs.Name.{name_of_text, is_dot, first_fault, lowercase_label, earlier_fault}
+use Rattle.dns_name.specs.Name.{name_of_text, name_of_labels, is_dot, fault_or, first_fault, lowercase_label, earlier_fault}
+use Rattle.dns_name.specs.Parts.{without_final}
 use Rattle.spf_macros.specs.Words.{is_domain, is_domain_label, is_label, is_word_byte, last_label}
 use Rattle.spf_macros.specs.declared.piece.Piece.{Piece}
 use Rattle.spf_macros.specs.Grammar.{is_toplabel}
@@ -23,18 +25,36 @@ use Rattle.spf_model.specs.Judging.{name_of, legal}
 use Rattle.spf_model.specs.Run.{Answering}
 use Rattle.record_pack.specs.Records.{record_name, record_text}
 use Rattle.zone_writer.specs.Written.{AreChainWords, record_owner}
-use Rattle.zone_writer.proofs.Domains.{in_range, next_name}
+use Rattle.zone_writer.proofs.Domains.{DomainEnds, domain_ends, in_range, next_name, no_final_dot}
 use Rattle.dns_name.proofs.Texts.{text_makes_name}
-use Rattle.spfc_words.proofs.Domains.{domain_is_legal}
-use Rattle.spfc_words.specs.Words.{has_room}
-use Rattle.spfc_top.specs.Chain.{next_spec, Holds, HoldRecords, AllHavePrefixes, RecordsAreChain}
-use Rattle.spfc_top.proofs.RecordTexts.{records_spell, records_lead_on}
+use Rattle.published_records.specs.Chain.{next_spec, Holds, HoldRecords, AllHavePrefixes, RecordsAreChain}
+use Rattle.published_records.proofs.RecordTexts.{records_spell, records_lead_on}
 
 -- ---- the names of records
 
--- the labels of a domain in lower case are legal, and the name is they
-domain_legal : (domain label : List ℕ) → AreChainWords domain label → first_fault (slice_split is_dot domain) ≡ None
-domain_legal domain label words = subst (λ t. first_fault (slice_split is_dot t) ≡ None) words.domain_lower (domain_is_legal domain words.domain_form)
+-- labels that make a name have no fault
+no_fault : {A : Type 0} (f : Option NameFault) (r : Result A NameFault) (x : A) → fault_or f r ≡ Ok x → f ≡ None
+no_fault None r x e = refl
+no_fault (Some f) r x e = absurd (other e)
+  where
+    other : Err f ≡ Ok x → ⊥
+    other e = cc
+
+-- the labels of a domain that makes a name are legal, and the name is they
+domain_legal : (domain label : List ℕ) (name : List (List ℕ)) → AreChainWords domain label → name_of_text domain ≡ Ok name → first_fault (slice_split is_dot domain) ≡ None
+domain_legal domain label name words named = by (bytes_eq domain (46 ∷ [])) refl named
+  where
+    ends : DomainEnds domain
+    ends = domain_ends domain words.domain_form
+
+    long : domain ≡ 46 ∷ [] → ⊥
+    long e = let none = subst (λ t. IsTrue (is_domain t)) e words.domain_form in true≢false (sym none)
+
+    by : (t : Bool) → bytes_eq domain (46 ∷ []) ≡ t → cond t (Ok []) (name_of_labels (slice_split is_dot (without_final is_dot domain))) ≡ Ok name
+        → first_fault (slice_split is_dot domain) ≡ None
+    by true e is = absurd (long ((bytes_eq-Decides domain (46 ∷ [])).0 e))
+    by false e is =
+        no_fault (first_fault (slice_split is_dot domain)) _ name (sym (ap (λ t. name_of_labels (slice_split is_dot t)) (no_final_dot domain ends)) ∙ is)
 
 domain_short : (domain : List ℕ) → IsTrue (is_domain domain) → length domain ≤ 253
 domain_short domain h = leb-true (length domain) 253 (and_parts _ _ h).1
@@ -44,7 +64,7 @@ of_ok (Ok name) = name
 of_ok (Err fault) = []
 
 pub name_is : (domain label : List ℕ) (name : List (List ℕ)) → AreChainWords domain label → name_of_text domain ≡ Ok name → name ≡ map lowercase_label (slice_split is_dot domain)
-name_is domain label name words named = ap of_ok (sym named ∙ text_makes_name domain (domain_legal domain label words) (domain_short domain words.domain_form))
+name_is domain label name words named = ap of_ok (sym named ∙ text_makes_name domain (domain_legal domain label name words named) (domain_short domain words.domain_form))
 
 -- a name of two labels or more
 abbrev pub HasTwoLabels : List (List ℕ) → Type 0
@@ -137,15 +157,8 @@ record_label domain label k words few =
     }
 
 -- the name of record 10 is the longest
-ten_long : length (decimal 10) ≡ 2
+pub ten_long : length (decimal 10) ≡ 2
 ten_long = ap length (decimal_step 10 (omega arith) (omega arith)) ∙ ap (λ ds. length (ds ++ 48 ∷ [])) (decimal_digit 1 (omega arith))
-
--- a domain and a label with room for the number of the last record
-pub room_short : (domain label : List ℕ) → IsTrue (has_room label domain) → length (record_name domain label 10) ≤ 253
-room_short domain label room =
-    let whole : length ((label ++ decimal 10) ++ 46 ∷ domain) ≡ length label + 2 + suc (length domain) =
-    length-append (label ++ decimal 10) (46 ∷ domain) ∙ ap (λ n. n + suc (length domain)) (length-append label (decimal 10) ∙ ap (λ n. length label + n) ten_long) in
-    omega (arith, leb-true (length label + 3 + length domain) 253 room, whole)
 
 name_short : (domain label : List ℕ) (k : ℕ) → AreChainWords domain label → k + 1 ≤ 10 → length (record_name domain label (k + 1)) ≤ 253
 name_short domain label k words few =
@@ -174,7 +187,7 @@ next_named domain label name k words named few =
     split = slice_split_at is_dot x 46 domain (no_dot x about.bytes) refl
 
     legal : first_fault (slice_split is_dot (x ++ 46 ∷ domain)) ≡ None
-    legal = ap first_fault split ∙ ap (λ f. earlier_fault f (first_fault (slice_split is_dot domain))) (no_fault_from_label x (about.some, about.long)) ∙ domain_legal domain label words
+    legal = ap first_fault split ∙ ap (λ f. earlier_fault f (first_fault (slice_split is_dot domain))) (no_fault_from_label x (about.some, about.long)) ∙ domain_legal domain label name words named
 
     short : length (x ++ 46 ∷ domain) ≤ 253
     short = subst (λ t. length t ≤ 253) (next_name domain label k) (name_short domain label k words few)
@@ -183,7 +196,8 @@ next_named domain label name k words named few =
     same = ap (map lowercase_label) split ∙ ap₂ (λ l ls. l ∷ ls) about.lower (sym (name_is domain label name words named))
         ∙ sym (ap (λ b. cond b name (x ∷ name)) (ne_eqb (k + 1) 0 (λ (e : k + 1 ≡ 0). omega (arith, e))))
 
-unfolded : (text : List ℕ) (name : List (List ℕ)) → name_of_text text ≡ Ok name → name_of text ≡ Some name
+-- the name of a legal text
+pub unfolded : (text : List ℕ) (name : List (List ℕ)) → name_of_text text ≡ Ok name → name_of text ≡ Some name
 unfolding Rattle.spf_model.specs.Judging.name_of
 unfolded text name h = ap legal h
 

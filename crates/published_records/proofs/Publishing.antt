@@ -1,15 +1,12 @@
--- What the written bytes say where they stand.
-use Rattle.std.proofs.Common.{◌≡◌, ℕ, zero, suc, ◌+◌, ◌-◌, ◌<◌, ◌≤◌, Bool, true, false, cond, IsFalse, Ok, List, [], ◌∷◌, ◌++◌, length, take, drop, refl, sym, ap, subst, ◌∙◌, arith, take-append-drop, Option, Some, None}
+-- What published records give where they stand.
+use Rattle.std.proofs.Common.{◌≡◌, ℕ, ◌-◌, ◌≤◌, Bool, true, false, cond, List, [], ◌∷◌, ◌++◌, length, take, drop, refl, sym, ap, subst, ◌∙◌, arith, take-append-drop, Option, Some, None}
 use Rattle.std.proofs.lemmas.List.{drop-drop}
 use Rattle.addr_bits.specs.declared.address.Address.{Address}
 use Rattle.addr_bits.specs.declared.address.Address.TheVariants.{V4}
-use Rattle.dns_name.specs.Name.{name_of_text}
 use Rattle.zone_answers.specs.declared.answer.Answer.{Answer}
 use Rattle.zone_answers.specs.declared.answer.Answer.TheVariants as answer
 use Rattle.zone_answers.specs.declared.answer.QKind.TheVariants as kind
 use Rattle.zone_answers.specs.Answers.{answer_of, answer_within, at_node, in_zone, is_cut_off, node_of, zone_of}
-use Rattle.master_reader.specs.Reading.{Reads}
-use Rattle.zone_answers.specs.Names.{has_own_alias, is_taken, other_text_of}
 use Rattle.zone_answers.specs.Zone.{Zone}
 use Rattle.spf_grammar.specs.Flat.{first}
 use Rattle.spf_grammar.specs.Families.{HavePrefixes}
@@ -25,17 +22,19 @@ use Rattle.spf_model.specs.Judging.{Labels, name_of}
 use Rattle.spf_model.specs.Result.{AllHave, Gives}
 use Rattle.spf_model.specs.Run.{Answering, EndsWith, Run, says}
 use Rattle.spf_model.proofs.Chains.{chains_give_first}
-use Rattle.record_pack.specs.Records.{IsCut, RiseTo, piece, pieces_from}
-use Rattle.zone_writer.specs.Written.{AreChainWords, record_owner}
+use Rattle.record_pack.specs.Records.{RiseTo, piece, pieces_from}
 use Rattle.zone_writer.proofs.Fragments.{fragment_is_read}
-use Rattle.spfc_top.specs.Chain.{AllHavePrefixes, HoldRecords}
-use Rattle.spfc_top.specs.Compiled.{Wanted, AreFree, is_name_taken, IsShortest}
-use Rattle.spfc_top.specs.Standing.{HoldsName, records_of, StandAlone, Stands}
+use Rattle.published_records.specs.Chain.{AllHavePrefixes}
+use Rattle.published_records.specs.Published.{AllHaveWithin, FragmentStands, GivesWithin, RecordsGive}
+use Rattle.published_records.specs.Standing.{HoldsName, StandAlone}
 use Rattle.zone_writer.proofs.Texts.{prefixes_piece}
-use Rattle.spfc_top.proofs.OutcomeLemmas.{some_once}
-use Rattle.spfc_top.proofs.RecordChains.{next_named, records_are_chain}
-use Rattle.spfc_top.proofs.StandingAlone.{length_pieces, records_stand_alone}
-use Rattle.spfc_top.proofs.StandingPatched.{records_stand_patched}
+use Rattle.published_records.proofs.RecordChains.{records_are_chain, unfolded}
+use Rattle.published_records.proofs.StandingAlone.{length_pieces, records_stand_alone}
+use Rattle.published_records.proofs.StandingPatched.{records_stand_patched}
+
+-- what is found is one thing
+pub some_once : {A : Type 0} {found : Option A} {a b : A} → found ≡ Some a → found ≡ Some b → a ≡ b
+some_once p q = cc
 
 -- ---- the zone that holds the domain, where each address has a verdict
 
@@ -91,53 +90,46 @@ pieces_terms list from (to ∷ ends) h =
 
 -- ---- a chain gives each address its verdict
 
-chain_gives : (zones : Answering) (domain : List ℕ) (name : Labels) (list : List FlatTerm) (lists : List (List FlatTerm)) → name_of domain ≡ Some name → IsChain zones domain name lists
-    → length lists ≤ 11 → all_terms lists ≡ list → AllHave zones receiver_limits domain (first list)
-chain_gives zones domain name list lists named chain few same a is =
-    given (chains_give_first zones receiver_limits a domain name lists chain (omega (arith, few)))
+chain_gives : (zones : Answering) (domain : List ℕ) (name : Labels) (list : List FlatTerm) (lists : List (List FlatTerm)) (records : ℕ) → name_of domain ≡ Some name → IsChain zones domain name lists
+    → length lists ≡ records → records ≤ 11 → all_terms lists ≡ list → AllHaveWithin zones domain records (first list)
+chain_gives zones domain name list lists records named chain many few same a is =
+    given (chains_give_first zones receiver_limits a domain name lists chain (omega (arith, many, few)))
   where
-    given : GivesFlat zones receiver_limits a domain name lists → Gives zones receiver_limits domain a (Is (first list a))
-    given h = (name, h.counts, named, subst (λ ts. EndsWith zones (check_host receiver_limits a domain name) (Is (first ts a)) h.counts) same h.ends)
+    given : GivesFlat zones receiver_limits a domain name lists → GivesWithin zones domain records a (first list a)
+    given h = record {
+      name = name;
+      counts = h.counts;
+      named = named;
+      ends = subst (λ ts. EndsWith zones (check_host receiver_limits a domain name) (Is (first ts a)) h.counts) same h.ends;
+      fewer = omega (arith, h.lookups, many);
+      lookups = omega (arith, h.lookups, many, few);
+      voids = h.voids;
+    }
 
 -- ---- the records of a cut, where they stand
 
-held_gives : (zones : Answering) (domain label : List ℕ) (name : Labels) (list : List FlatTerm) (ends : List ℕ) → AreChainWords domain label → name_of_text domain ≡ Ok name → name_of domain ≡ Some name
-    → HavePrefixes list → IsCut (length list) ends → HoldRecords zones domain label name 0 (pieces_from list 0 ends) → AllHave zones receiver_limits domain (first list)
-held_gives zones domain label name list [] words named is prefixes cut hold = absurd (omega (arith, cut.some))
-held_gives zones domain label name list (to ∷ ends) words named is prefixes cut hold =
-    chain_gives zones domain name list (pieces_from list 0 (to ∷ ends)) is
+pub records_give : RecordsGive
+records_give zones domain label name list [] words named prefixes cut hold = absurd (omega (arith, cut.some))
+records_give zones domain label name list (to ∷ ends) words named prefixes cut hold =
+    chain_gives zones domain name list (pieces_from list 0 (to ∷ ends)) (length (to ∷ ends)) (unfolded domain name named)
     (records_are_chain zones domain label name (piece list 0 to) (pieces_from list to ends) words named (omega (arith, cut.few, length_pieces list to ends)) (pieces_prefixes list 0 (to ∷ ends) prefixes) hold)
-    (omega (arith, cut.few, length_pieces list 0 (to ∷ ends))) (pieces_terms list 0 (to ∷ ends) cut.rise)
+    (length_pieces list 0 (to ∷ ends)) cut.few (pieces_terms list 0 (to ∷ ends) cut.rise)
 
--- the names behind the first are free
-free_owner : (want : Wanted) (zones : List Zone) (name : Labels) (records : ℕ) → AreChainWords want.domain want.label → name_of_text want.domain ≡ Ok name → records ≤ 11 → AreFree want zones records
-    → (k : ℕ) → 1 ≤ k → k < records → IsFalse (is_taken zones (record_owner name want.label k))
-free_owner want zones name records words named few free zero behind within = absurd (omega (arith, behind))
-free_owner want zones name records words named few free (suc k) behind within =
-    subst (λ n. IsFalse (is_taken zones (record_owner name want.label n))) one
-    (subst (λ found. IsFalse (is_name_taken zones found)) (next_named want.domain want.label name k words named (omega (arith, few, within)))
-    (free (k + 1) (omega arith) (omega (arith, within))))
-  where
-    one : k + 1 ≡ suc k
-    one = omega arith
+-- ---- the fragment
 
-pub stands : (want : Wanted) (limits : Limits) (zones : List Zone) (name : Labels) (bytes : List ℕ) → AreChainWords want.domain want.label → want.size ≤ 4096 → want.ttl ≤ 2147483647
-    → name_of want.domain ≡ Some name → name_of_text want.domain ≡ Ok name → IsFalse (has_own_alias zones name)
-    → (best : IsShortest want limits zones name bytes) → Stands want zones name best.list best.ends bytes
-stands want limits zones name bytes words small lasting is named no_alias best = record {
-  reads = subst (λ bs. Reads name bs (records_of want name best.list best.ends)) (sym best.written)
-      (fragment_is_read want.domain want.label want.ttl want.size (other_text_of zones name) best.list best.ends best.rows4 best.rows6 best.sum name words named lasting small best.prefixes best.fits);
+pub fragment_stands : FragmentStands
+fragment_stands zones domain label ttl size others list ends rows4 rows6 total name words named lasting small prefixes fits held no_alias free = record {
+  reads = fragment_is_read domain label ttl size others list ends rows4 rows6 total name words named lasting small prefixes fits;
   lendable = by_itself.lendable;
   lent = by_itself.lent;
-  alone = held_gives _ want.domain want.label name best.list best.ends words named is best.prefixes best.fits.cut by_itself.hold;
-  in_place = held_gives _ want.domain want.label name best.list best.ends words named is best.prefixes best.fits.cut
-      (records_stand_patched zones want.domain want.label name (pieces_from best.list 0 best.ends) (omega (arith, best.fits.cut.few, many))
-      (holds_name zones limits want.domain name (first best.list) is best.same) no_alias
-      (λ k behind within. free_owner want zones name (length best.ends) words named best.fits.cut.few best.free k behind (omega (arith, within, many))));
+  alone = records_give _ domain label name list ends words named prefixes fits.cut by_itself.hold;
+  in_place = records_give _ domain label name list ends words named prefixes fits.cut
+      (records_stand_patched zones domain label name (pieces_from list 0 ends) (omega (arith, fits.cut.few, many)) held no_alias
+      (λ k behind within. free k behind (omega (arith, within, many))));
 }
   where
-    many : length (pieces_from best.list 0 best.ends) ≡ length best.ends
-    many = length_pieces best.list 0 best.ends
+    many : length (pieces_from list 0 ends) ≡ length ends
+    many = length_pieces list 0 ends
 
-    by_itself : StandAlone want.domain want.label name (pieces_from best.list 0 best.ends)
-    by_itself = records_stand_alone want.domain want.label want.size (other_text_of zones name) best.list best.ends name small best.fits
+    by_itself : StandAlone domain label name (pieces_from list 0 ends)
+    by_itself = records_stand_alone domain label size others list ends name small fits

@@ -24,9 +24,9 @@ use Rattle.spf_text.specs.Version.{is_spf_text}
 use Rattle.spf_model.specs.Check.{spf_text_of}
 use Rattle.spf_model.specs.Run.{says}
 use Rattle.zone_writer.specs.Fragment.{strings_of}
-use Rattle.spfc_top.specs.Chain.{Holds}
-use Rattle.spfc_top.proofs.StandingLists.{all_kept, all_mapped, all_weaker, any_false, distinct_kept, distinct_one, one_passes}
-use Rattle.spfc_top.proofs.StandingTexts.{txt_of_spf}
+use Rattle.published_records.specs.Chain.{Holds}
+use Rattle.published_records.proofs.StandingLists.{all_kept, all_mapped, all_weaker, any_false, distinct_kept, distinct_one, one_passes}
+use Rattle.published_records.proofs.StandingTexts.{txt_of_spf}
 
 -- RFC 1034, section 4.3.2, step 3 b: the record cuts the name off from its zone
 abbrev pub cuts : (origin name : List (List ℕ)) → Record → Bool

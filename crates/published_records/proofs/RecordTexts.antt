@@ -33,7 +33,7 @@ use Rattle.spf_grammar.specs.declared.policy.Term.TheVariants.{Directive}
 use Rattle.spf_model.specs.Chains.{directives_of, mechanism_of, redirect_terms}
 use Rattle.record_pack.specs.Records.{record_name, redirect_text, spaced}
 use Rattle.zone_writer.proofs.Domains.{DomainEnds, is_name_byte, name_ends, name_passes, no_final_dot}
-use Rattle.spfc_top.specs.Chain.{next_redirect, RecordsSpell, RecordsLeadOn}
+use Rattle.published_records.specs.Chain.{next_redirect, RecordsSpell, RecordsLeadOn}
 
 -- ---- flat terms
 

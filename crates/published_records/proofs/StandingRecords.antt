@@ -15,9 +15,9 @@ use Rattle.spf_model.specs.Run.{Answering}
 use Rattle.record_pack.specs.Records.{record_text}
 use Rattle.zone_writer.specs.Fragment.{is_none}
 use Rattle.zone_writer.specs.Written.{record_owner, written_records}
-use Rattle.spfc_top.specs.Chain.{Holds, HoldRecords}
-use Rattle.spfc_top.proofs.StandingFound.{cuts, txt_record}
-use Rattle.spfc_top.proofs.StandingLists.{all_weaker, none_kept}
+use Rattle.published_records.specs.Chain.{Holds, HoldRecords}
+use Rattle.published_records.proofs.StandingFound.{cuts, txt_record}
+use Rattle.published_records.proofs.StandingLists.{all_weaker, none_kept}
 
 -- ---- owners
 

@@ -1,4 +1,4 @@
--- Where the records of a fragment stand: alone as a zone, and in the zones that were read.
+-- Where records stand: alone as a zone, and in zones that were read.
 use Rattle.std.specs.Prelude.{◌≡◌, ℕ, ◌<◌, ◌≤◌, ◌&&◌, Bool, false, not, IsFalse, List, [], ◌++◌, length, map, filter, Option, Some, None, is_some, if◌then◌else◌}
 use Rattle.master_reader.specs.declared.record.Record.{Record}
 use Rattle.zone_answers.specs.Answers.{zone_of, is_cut_off}
@@ -11,12 +11,7 @@ use Rattle.spf_model.specs.Check.{spf_text_of}
 use Rattle.spf_model.specs.Run.{says}
 use Rattle.record_pack.specs.Records.{IsFittingCut, pieces_from}
 use Rattle.zone_writer.specs.Written.{record_owner, written_records}
-use Rattle.spf_grammar.specs.Flat.{first}
-use Rattle.master_reader.specs.Reading.{Reads}
-use Rattle.spf_model.specs.Check.{receiver_limits}
-use Rattle.spf_model.specs.Result.{AllHave}
-use Rattle.spfc_top.specs.Chain.{HoldRecords}
-use Rattle.spfc_top.specs.Compiled.{Wanted}
+use Rattle.published_records.specs.Chain.{HoldRecords}
 
 -- RFC 7208, section 4.5: a record with an SPF text at the name
 abbrev pub is_spf_record : (name : List (List ℕ)) → Record → Bool
@@ -60,17 +55,3 @@ RecordsStandPatched = (zones : List Zone) (domain label : List ℕ) (name : List
     → length lists ≤ 11 → HoldsName zones name → IsFalse (has_own_alias zones name)
     → ((k : ℕ) → 1 ≤ k → k < length lists → IsFalse (is_taken zones (record_owner name label k)))
     → HoldRecords (says (patched zones name (written_records domain label name 0 lists))) domain label name 0 lists
-
--- the records of a cut of a list
-abbrev pub records_of : Wanted → (name : List (List ℕ)) → List FlatTerm → (ends : List ℕ) → List Record
-records_of want name list ends = written_records want.domain want.label name 0 (pieces_from list 0 ends)
-
--- RFC 7208, section 4: what the written bytes say where they stand. They are a master file, which is read as the records of the cut,
--- by a reader of the zone of the domain. These may be lent alone. Alone, and also in the zones that were read with the SPF texts at the
--- domain replaced by them, check_host gives each address the verdict of the list, under the limits of a mail receiver
-pub record Stands (want : Wanted) (zones : List Zone) (name : List (List ℕ)) (list : List FlatTerm) (ends : List ℕ) (bytes : List ℕ) : Type 0 where
-  pub reads : Reads name bytes (records_of want name list ends)
-  pub lendable : AreLendable name (records_of want name list ends)
-  pub lent : IsLent [] name (records_of want name list ends)
-  pub alone : AllHave (says (with_zone [] name (records_of want name list ends))) receiver_limits want.domain (first list)
-  pub in_place : AllHave (says (patched zones name (records_of want name list ends))) receiver_limits want.domain (first list)
