@@ -65,7 +65,7 @@ fn kept_verdicts(
     ensures stops { IfErr result (IsRefusedStop limits zones.now domain.now) }
 {
     let both = evaluate(alloc, zones, limits, domain)?;
-    match verdicts(alloc, &both.v4, &both.v6) {
+    match verdicts(&both.v4, &both.v6) {
         Ok(tries) => Ok(tries),
         Err(fault) => Err(stop_of(alloc, fault)),
     }

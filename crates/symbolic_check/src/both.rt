@@ -44,7 +44,7 @@ impl Scene<'_> {
         };
         let begin = TrieMap::whole(self.alloc, State::Live(counts))?;
         let end = self.walk_record(self.limits.lookups + 1, begin, asked)?;
-        steps::outcomes(self.alloc, &end)
+        steps::outcomes(&end)
     }
 }
 

@@ -95,7 +95,7 @@ impl Scene<'_> {
         let place = self.place(term);
         let void = is_void(&found);
         let counted = steps::count_voids(self.alloc, states, self.limits, &place, void)?;
-        steps::match_all(self.alloc, &counted, verdict, is_found(&found))
+        steps::match_all(&counted, verdict, is_found(&found))
     }
 
     /// `a` with its verdict (RFC 7208, section 5.3).

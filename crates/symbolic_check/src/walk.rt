@@ -236,7 +236,7 @@ impl Scene<'_> {
             Some((term, spec)) => {
                 self.walk_target(depth, term, spec, Purpose::Redirect, states, asked)
             }
-            None => steps::match_all(self.alloc, &states, Verdict::Neutral, true),
+            None => steps::match_all(&states, Verdict::Neutral, true),
         }
     }
 

@@ -8,7 +8,7 @@ use addr_bits::{Address, Width};
 use prefix_trie::TrieMap;
 use spf_grammar::Verdict;
 use spf_model::Outcome;
-use std::alloc::{AllocError, Global};
+use std::alloc::AllocError;
 
 /// The verdict of every address, as a trie for each family.
 #[derive(Drop)]
@@ -51,18 +51,10 @@ fn least_without<W: Width>(
 }
 
 /// The verdict at each address, and neutral where the outcome is none.
-fn verdicts_of<W: Width>(
-    alloc: Global,
-    outcomes: &TrieMap<W, Outcome>,
-) -> Result<TrieMap<W, Verdict>, AllocError>
+fn verdicts_of<W: Width>(outcomes: &TrieMap<W, Outcome>) -> Result<TrieMap<W, Verdict>, AllocError>
     ensures { IfOk result (λ verdicts. (a : ℕ) → a < 2 ^ W.BITS → value_at W.BITS verdicts a ≡ option_map verdict_or_neutral (value_at W.BITS outcomes.now a)) }
 {
-    TrieMap::combine(
-        alloc,
-        outcomes,
-        outcomes,
-        |outcome, _| Ok(verdict_of(outcome)),
-    )
+    outcomes.map(|outcome| Ok(verdict_of(outcome)))
 }
 
 /// The verdict of every address. `Refused` comes exactly where some address has an outcome that is no verdict, with the
@@ -70,7 +62,6 @@ fn verdicts_of<W: Width>(
 /// no memory.
 #[tactic(auto, using(crate::proofs::Outcomes::verdict_of_outcome))]
 pub fn verdicts(
-    alloc: Global,
     v4: &TrieMap<u32, Outcome>,
     v6: &TrieMap<u128, Outcome>,
 ) -> Result<VerdictTries, VerdictFault>
@@ -91,7 +82,7 @@ pub fn verdicts(
         });
     }
     Ok(VerdictTries {
-        v4: verdicts_of(alloc, v4)?,
-        v6: verdicts_of(alloc, v6)?,
+        v4: verdicts_of(v4)?,
+        v6: verdicts_of(v6)?,
     })
 }
