@@ -1,8 +1,9 @@
 -- No file has neither a reading nor a first fault.
 use Rattle.std.proofs.Common.{◌≡◌, ◌≢◌, ℕ, zero, suc, ◌+◌, ◌<◌, ◌≤◌, ◌⊎◌, Bool, true, false, cond, List, [], ◌∷◌, ◌++◌, filter, length, Result, Ok, Err, refl, sym, ap, subst, ◌∙◌, inl, inr, arith, length-append}
 use Rattle.std.specs.Prelude.{MatchBool, IsTrue, codes}
-use Rattle.addr_bits.specs.Ip4.{SpellsIp4}
-use Rattle.addr_bits.specs.Ip6.{SpellsIp6}
+use Rattle.addr_bits.specs.Address.{address_of, SpellsIn}
+use Rattle.addr_bits.specs.declared.address.Family.{Family}
+use Rattle.addr_bits.specs.declared.address.Family.TheVariants.{V4, V6}
 use Rattle.master_lex.specs.declared.entry.Token.{Token}
 use Rattle.master_lex.specs.declared.entry.Entry.{Entry}
 use Rattle.master_lex.specs.declared.fault.LexKind.{LexKind}
@@ -13,11 +14,10 @@ use Rattle.master_lex.proofs.Standing.{one_or_other}
 use Rattle.master_reader.specs.declared.fault.Kind.{Kind}
 use Rattle.master_reader.specs.declared.fault.Kind.TheVariants as kinds
 use Rattle.master_reader.specs.declared.record.Body.{Body}
-use Rattle.master_reader.specs.declared.record.Body.TheVariants.{A, Aaaa}
 use Rattle.master_reader.specs.declared.record.Record.{Record}
 use Rattle.master_reader.specs.Tokens.{bytes_of, is_bare, is_word}
 use Rattle.master_reader.specs.Entry.{Context, Ask, a_record, an_origin, no_record, ask_of, context_behind}
-use Rattle.master_reader.specs.Data.{IsAddressBody, IsBody, other_body}
+use Rattle.master_reader.specs.Data.{IsAddressBody, IsBody, address_body, other_body}
 use Rattle.master_reader.specs.Reading.{Adds, Mean, first_context, kind_of, records_kept, Reads, Faults}
 use Rattle.master_reader.proofs.Once.{Starts}
 
@@ -32,22 +32,22 @@ said : (Is : Result Body Kind → Type 0) (r : Result Body Kind) → Is r → St
 said Is (Ok body) h = inl (body, h)
 said Is (Err kind) h = inr (kind, h)
 
-address_stands : (Spells : List ℕ → ℕ → Type 0) (body : ℕ → Body) (content : List Token) → (Stands (IsAddressBody Spells body content) → ⊥) → ⊥
-address_stands Spells body [] none = none (inr (kinds.BadData, refl))
-address_stands Spells body (token ∷ other ∷ more) none = none (inr (kinds.BadData, refl))
-address_stands Spells body (token ∷ []) none = by (is_bare token) none
+address_stands : (f : Family) (content : List Token) → (Stands (IsAddressBody f content) → ⊥) → ⊥
+address_stands f [] none = none (inr (kinds.BadData, refl))
+address_stands f (token ∷ other ∷ more) none = none (inr (kinds.BadData, refl))
+address_stands f (token ∷ []) none = by (is_bare token) none
   where
-    by : (b : Bool) → (((is : Body) × MatchBool b ((n : ℕ) × Spells (bytes_of token) n × (is ≡ body n)) (◌≡◌ {A = Result Body Kind} (Ok is) (Err kinds.BadData)))
-        ⊎ ((kind : Kind) × MatchBool b ((kind ≡ kinds.BadData) × ((n : ℕ) → ¬ Spells (bytes_of token) n)) (◌≡◌ {A = Result Body Kind} (Err kind) (Err kinds.BadData))) → ⊥) → ⊥
-    by true none = none (inr (kinds.BadData, (refl, λ n spelled. none (inl (body n, (n, spelled, refl))))))
+    by : (b : Bool) → (((is : Body) × MatchBool b ((n : ℕ) × SpellsIn f (bytes_of token) n × (is ≡ address_body (address_of f n))) (◌≡◌ {A = Result Body Kind} (Ok is) (Err kinds.BadData)))
+        ⊎ ((kind : Kind) × MatchBool b ((kind ≡ kinds.BadData) × ((n : ℕ) → ¬ SpellsIn f (bytes_of token) n)) (◌≡◌ {A = Result Body Kind} (Err kind) (Err kinds.BadData))) → ⊥) → ⊥
+    by true none = none (inr (kinds.BadData, (refl, λ n spelled. none (inl (address_body (address_of f n), (n, spelled, refl))))))
     by false none = none (inr (kinds.BadData, refl))
 
 body_stands : (origin : List (List ℕ)) (type : Token) (content : List Token) → (Stands (IsBody origin type content) → ⊥) → ⊥
 body_stands origin type content none = by (is_word type (codes "a")) (is_word type (codes "aaaa")) none
   where
-    by : (a b : Bool) → (Stands (λ r. MatchBool a (IsAddressBody SpellsIp4 A content r) (MatchBool b (IsAddressBody SpellsIp6 Aaaa content r) (r ≡ other_body origin type content))) → ⊥) → ⊥
-    by true b none = address_stands SpellsIp4 A content none
-    by false true none = address_stands SpellsIp6 Aaaa content none
+    by : (a b : Bool) → (Stands (λ r. MatchBool a (IsAddressBody V4 content r) (MatchBool b (IsAddressBody V6 content r) (r ≡ other_body origin type content))) → ⊥) → ⊥
+    by true b none = address_stands V4 content none
+    by false true none = address_stands V6 content none
     by false false none = none (said (λ r. r ≡ other_body origin type content) (other_body origin type content) refl)
 
 -- ---- one entry
