@@ -10,7 +10,8 @@ use Rattle.std.proofs.lemmas.List.{get_or_default, map_more}
 use Rattle.std.proofs.lemmas.List.Quantifiers.{all_pairs_push}
 use Rattle.std.proofs.lemmas.List.Folds.{Any-from_list_any, list_any_at}
 use Rattle.spfc_words.specs.declared.zone_word.ZoneWord.{ZoneWord}
-use Rattle.spfc_words.specs.Words.{texts, IsZoneWord, HaveOwnOrigins}
+use Rattle.spfc_words.specs.Words.{texts}
+use Rattle.spfc_words.specs.ZoneWords.{IsZoneWord, HaveOwnOrigins}
 
 -- ---- lists place by place
 pub zip_push : {A B : Type 0} (R : A → B → Type 0) (xs : List A) (ys : List B) (x : A) (y : B) → AllZip R xs ys → R x y → AllZip R (xs ++ x ∷ []) (ys ++ y ∷ [])
@@ -92,6 +93,15 @@ own_push seen zone own free =
     all_pairs_push (λ (a b : ZoneWord). a.origin ≢ b.origin) seen zone own
     (λ k d lt same. true≢false (sym (list_any_at (λ z. pointwise bytes_eq z.origin zone.origin) seen k d lt
     ((pointwise_decides bytes_decides (get_or seen k d).origin zone.origin).1 same)) ∙ free))
+
+-- words name one row of zones at most
+pub one_row : (words : List (List ℕ)) (a b : List ZoneWord) → AllZip IsZoneWord words a → AllZip IsZoneWord words b → a ≡ b
+one_row [] [] [] x y = refl
+one_row [] [] (z ∷ b) x y = absurd y
+one_row [] (z ∷ a) b x y = absurd x
+one_row (word ∷ words) [] b x y = absurd x
+one_row (word ∷ words) (z ∷ a) [] x y = absurd y
+one_row (word ∷ words) (z ∷ a) (u ∷ b) x y = ap₂ (λ (v : ZoneWord) (zs : List ZoneWord). v ∷ zs) (one_zone word u z y.0 x.0) (one_row words a b x.1 y.1)
 
 -- ---- what the reader of one word found
 pub none_found : (word text : List ℕ) (found : Option ZoneWord) → text ≡ word → found ≡ None → MatchOption found ((zone : ZoneWord) → ¬ IsZoneWord text zone) (IsZoneWord text) → (zone : ZoneWord) → ¬ IsZoneWord word zone

@@ -1,9 +1,10 @@
 use Rattle.std.proofs.Common.{◌≡◌, ◌+◌, [], ◌∷◌, ◌++◌, take, subst, string_bytes, bytes_eq, sym, ap, ◌∙◌, rules}
 use Rattle.std.specs.List.{AllZip, list_any}
 use Rattle.std.specs.Cmp.Lexicographic.{pointwise}
-use Rattle.spfc_words.specs.Words.{texts, IsZoneWord, HaveOwnOrigins}
-use Rattle.spfc_words.proofs.Zones.{refused_at, taken_at, one_more, own_push, none_found, zone_found}
-use Rattle.spfc_words.proofs.zone_word.read_zones.Goals as goal
+use Rattle.spfc_words.specs.Words.{texts}
+use Rattle.spfc_words.specs.ZoneWords.{IsZoneWord, HaveOwnOrigins}
+use Rattle.spfc_words.proofs.ZoneWords.{refused_at, taken_at, one_more, own_push, none_found, zone_found}
+use Rattle.spfc_words.proofs.zone_word.read_zone_words.Goals as goal
 
 pub returns-in_default : goal.returns-in_default
 returns-in_default c any zones =

@@ -1,4 +1,4 @@
--- The words of a chain of records, taken in lower case.
+-- Domains and labels, taken in lower case.
 use Rattle.std.proofs.Common.{◌≡◌, ℕ, ◌-◌, ◌≤◌, zero, suc, ◌==◌, Bool, true, not, ◌&&◌, ◌||◌, IsTrue, List, [], ◌∷◌, codes, length, map, refl, sym, ap, ap₂, subst, ◌∙◌, arith, lit≤}
 use Rattle.std.specs.Prelude.{nat_le, slice_index}
 use Rattle.std.specs.List.{list_all, list_any, slice_split}
@@ -68,7 +68,7 @@ toplabel_lower label = λ i. bytes i && not (hyphen_at label 0 i) && not (last i
     some = any_lower to_ascii_lowercase (λ b. is_ascii_alphabetic b || b == 45)
         (letters_lower (λ b. is_ascii_alphabetic b || b == 45) (λ b h. or_left (is_ascii_alphabetic b) (b == 45) h)) label
 
-is_domain_lower : (text : List ℕ) → is_domain (str_to_ascii_lowercase text) ≡ is_domain text
+pub is_domain_lower : (text : List ℕ) → is_domain (str_to_ascii_lowercase text) ≡ is_domain text
 is_domain_lower text =
     let labels = slice_split is_dot text in
     let split : slice_split is_dot (str_to_ascii_lowercase text) ≡ map lowercase_label labels = split_lower text in
@@ -79,42 +79,6 @@ is_domain_lower text =
     ap (λ ls. is_toplabel (last_label ls)) split ∙ ap is_toplabel (last_lower labels) ∙ toplabel_lower (last_label labels) in
     λ i. nat_le 2 (many i) && each i && top i && nat_le (length_lower text i) 253
 
-is_label_lower : (text : List ℕ) → is_label (str_to_ascii_lowercase text) ≡ is_label text
+pub is_label_lower : (text : List ℕ) → is_label (str_to_ascii_lowercase text) ≡ is_label text
 is_label_lower [] = refl
 is_label_lower (b ∷ text) = λ i. byte_lower 95 refl b i && nat_le (length_lower text i) 60 && words_lower text i
-
--- ---- what is compiled
--- a domain and a label, both in lower case
-pub record AreLowerWords (domain label : List ℕ) : Type 0 where
-  pub domain_form : IsTrue (is_domain domain)
-  pub label_form : IsTrue (is_label label)
-  pub domain_lower : str_to_ascii_lowercase domain ≡ domain
-  pub label_lower : str_to_ascii_lowercase label ≡ label
-
-written_label : (values : List (List ℕ)) (label : List ℕ) → IsOption IsLabelText (codes "_spf") values label → IsTrue (is_label label) × (str_to_ascii_lowercase label ≡ label)
-written_label [] label is = subst (λ l. IsTrue (is_label l) × (str_to_ascii_lowercase l ≡ l)) (sym is) (refl, refl)
-written_label (value ∷ []) label is =
-    subst (λ l. IsTrue (is_label l) × (str_to_ascii_lowercase l ≡ l)) (sym is.lower) (is_label_lower value ∙ is.form, lowercase_twice value)
-written_label (value ∷ again ∷ values) label is = absurd is
-
-written_most : (low high by_default : ℕ) (values : List (List ℕ)) (n : ℕ) → by_default ≤ high → IsOption (IsNumber low high) by_default values n → n ≤ high
-written_most low high by_default [] n fits is = omega (arith, fits, is)
-written_most low high by_default (value ∷ []) n fits is = is.most
-written_most low high by_default (value ∷ again ∷ values) n fits is = absurd is
-
-module _ (word : List ℕ) (words : List (List ℕ)) (domain : List ℕ) (limits : Limits) (size ttl : ℕ) (label : List ℕ) (zones : List ZoneWord) where
-  pub compiled_words : IsCompiled word words domain limits size ttl label zones → AreLowerWords domain label
-  compiled_words is =
-      let named = written_label (values_of (codes "--label") (settings_in is_compile_option words)) label is.options.labelled in
-      record {
-        domain_form = subst (λ d. IsTrue (is_domain d)) (sym is.lower) (is_domain_lower word ∙ is.form);
-        label_form = named.0;
-        domain_lower = subst (λ d. str_to_ascii_lowercase d ≡ d) (sym is.lower) (lowercase_twice word);
-        label_lower = named.1;
-      }
-
-  pub compiled_bounds : IsCompiled word words domain limits size ttl label zones → (size ≤ 4096) × (ttl ≤ 2147483647)
-  compiled_bounds is = (
-    written_most 64 4096 450 (values_of (codes "--size") (settings_in is_compile_option words)) size (lit≤ tt) is.options.sized,
-    written_most 0 2147483647 3600 (values_of (codes "--ttl") (settings_in is_compile_option words)) ttl (lit≤ tt) is.options.lasting,
-  )
