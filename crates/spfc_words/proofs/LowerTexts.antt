@@ -1,5 +1,5 @@
 -- Domains and labels, taken in lower case.
-use Rattle.std.proofs.Common.{◌≡◌, ℕ, ◌-◌, ◌≤◌, zero, suc, ◌==◌, Bool, true, not, ◌&&◌, ◌||◌, IsTrue, List, [], ◌∷◌, codes, length, map, refl, sym, ap, ap₂, subst, ◌∙◌, arith, lit≤}
+use Rattle.std.proofs.Common.{◌≡◌, ℕ, ◌-◌, zero, suc, ◌==◌, Bool, true, not, ◌&&◌, ◌||◌, List, [], ◌∷◌, length, map, refl, sym, ap, ap₂, ◌∙◌}
 use Rattle.std.specs.Prelude.{nat_le, slice_index}
 use Rattle.std.specs.List.{list_all, list_any, slice_split}
 use Rattle.std.specs.Char.{is_ascii_alphabetic, is_ascii_digit, to_ascii_lowercase}
@@ -7,13 +7,8 @@ use Rattle.std.specs.Str.{str_to_ascii_lowercase}
 use Rattle.std.proofs.lemmas.Bool.{or_left}
 use Rattle.std.proofs.lemmas.List.{length-map}
 use Rattle.dns_name.specs.Name.{lowercase_label, is_dot}
-use Rattle.dns_name.proofs.Octets.{lowercase_twice}
 use Rattle.spf_macros.specs.Grammar.{is_let_dig_hyp, is_toplabel}
 use Rattle.spf_macros.specs.Words.{is_word_byte, is_domain_label, last_label, is_domain, is_label}
-use Rattle.spf_model.specs.declared.outcome.Limits.{Limits}
-use Rattle.spfc_words.specs.declared.zone_word.ZoneWord.{ZoneWord}
-use Rattle.spfc_words.specs.Options.{IsNumber, IsOption, IsLabelText, settings_in, values_of, is_compile_option}
-use Rattle.spfc_words.specs.Words.{IsCompiled}
 use Rattle.dns_name.proofs.Texts.{byte_lower, split_lower, test_lower}
 
 -- ---- tests of a text in lower case

@@ -1,5 +1,5 @@
 -- Options in a row, and their numbers.
-use Rattle.std.proofs.Common.{◌++◌, option_map, map, MatchOption, ◌≡◌, ℕ, ◌-◌, Bool, true, false, String, string_bytes, bytes_eq, length, take, drop, get_or, ap₂, ◌<◌, ◌≤◌, ◌^◌, List, [], ◌∷◌, Some, None, Result, refl, sym, ap, ◌∙◌, arith, ◌||◌, subst}
+use Rattle.std.proofs.Common.{◌++◌, option_map, map, MatchOption, ◌≡◌, ℕ, ◌-◌, Bool, true, false, String, string_bytes, length, take, drop, get_or, ap₂, ◌<◌, ◌≤◌, ◌^◌, List, [], ◌∷◌, Some, None, Result, refl, sym, ap, ◌∙◌, arith, ◌||◌, subst}
 use Rattle.std.specs.declared.option.Option.{Option}
 use Rattle.std.specs.List.{list_any}
 use Rattle.std.specs.Result.{result_ok}
@@ -8,7 +8,7 @@ use Rattle.std.proofs.lemmas.Fmt.{parse-decimal, decimal_injective}
 use Rattle.std.proofs.lemmas.List.{take_rest}
 use Rattle.std.specs.declared.alloc.Global.{Global}
 use Rattle.spfc_words.specs.Rows.{OptionRow, NumberOption, TextOption, FlagOption, is_flag, is_valued}
-use Rattle.spfc_words.specs.Options.{IsNumber, IsText, IsFlag, IsOption, Setting, settings_in, behind_options, values_of, NumberIs, TextIs, FlagIs, Splits, HasNone}
+use Rattle.spfc_words.specs.Options.{IsNumber, IsText, IsFlag, IsOption, settings_in, values_of, NumberIs, TextIs, FlagIs, Splits, HasNone}
 use Rattle.spfc_words.specs.Words.{texts}
 
 -- ---- tables

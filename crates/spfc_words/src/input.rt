@@ -68,10 +68,18 @@ pub fn push_zone_words(
 fn place_zone(group: Group, zone: ZoneWord) -> Input
     ensures { result ≡ inputs.place_zone group zone }
 {
-    let ZoneWord { origin, file } = zone;
-    let place = match group {
+    Input {
+        place: place_in(group, zone.origin),
+        file: zone.file,
+    }
+}
+
+/// The zone of an origin, in its group.
+fn place_in(group: Group, origin: Name) -> Place
+    ensures { result ≡ inputs.place_in group origin }
+{
+    match group {
         Group::Zones => Place::Zone(origin),
         Group::Others => Place::Other(origin),
-    };
-    Input { place, file }
+    }
 }
