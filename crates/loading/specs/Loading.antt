@@ -3,6 +3,7 @@ use Rattle.std.specs.Prelude.{◌≡◌, ℕ, ◌<◌, ◌≤◌, not, bytes_eq,
 use Rattle.std.specs.Prelude.{Some, None, Result, Ok, Err}
 use Rattle.std.specs.declared.option.Option.{Option}
 use Rattle.std.specs.List.{take_while}
+use Rattle.dns_name.specs.Name.{IsName}
 use Rattle.master_reader.specs.declared.fault.Kind.{Kind}
 use Rattle.master_reader.specs.declared.record.Record.{Record}
 use Rattle.master_reader.specs.Reading.{Reads, Faults}
@@ -43,7 +44,7 @@ pub data LendDue (zones : List Zone) (origin : List (List ℕ)) (records : List 
     (found : Result (List Zone) Refusal) : Type 0 where
   too_many : (count : ℕ) → IsRefused zones origin records (fault.TooMany count)
       → found ≡ Err (TooManyRecords origin) → LendDue zones origin records found
-  clash : (name : List (List ℕ)) → IsRefused zones origin records (fault.AliasAndOther name)
+  clash : (name : List (List ℕ)) → IsName name → IsRefused zones origin records (fault.AliasAndOther name)
       → found ≡ Err (AliasAndOther origin name) → LendDue zones origin records found
   lent : IsLent zones origin records → found ≡ Ok (with_zone zones origin records) → LendDue zones origin records found
 
@@ -95,6 +96,11 @@ InputsDue held loaded (input ∷ inputs) found =
 -- what the files of a job come to
 abbrev pub Loads : Contents → List Input → Result Loaded Refusal → Type 0
 Loads held inputs found = InputsDue held nothing inputs found
+
+-- files come to one thing at most
+abbrev pub OneLoading : Type 0
+OneLoading = (held : Contents) (inputs : List Input) (a b : Result Loaded Refusal)
+    → Loads held inputs a → Loads held inputs b → a ≡ b
 
 -- the files before the first place of this name
 abbrev pub inputs_before : (name : List ℕ) → List Input → List Input

@@ -1,6 +1,7 @@
 //! Lending a zone beside the zones of its group.
-ghost use Rattle.std.specs.Prelude.{Ok, Err, OnOk, IfErr};
-ghost use Rattle.zone_answers.specs.Lend.{AreLendable, IsRefused};
+ghost use Rattle.std.specs.Prelude.{◌≡◌, Ok, Err, OnOk, IfErr};
+ghost use Rattle.dns_name.specs.Name.{IsName};
+ghost use Rattle.zone_answers.specs.Lend.{AreLendable};
 ghost use Rattle.loading.specs.Loading.{LendDue, IsRefusal};
 ghost use Rattle.loading.specs.Memory.{ErrorIs};
 
@@ -11,11 +12,7 @@ use master_reader::Records;
 use zone_answers::{LendFault, Zones};
 
 /// Lends the records beside the zones before them.
-pub(crate) fn lend(
-    zones: &mut Zones,
-    origin: &Name,
-    records: Records,
-) -> Result<(), OrMemory<Stop>>
+pub(crate) fn lend(zones: &mut Zones, origin: &Name, records: Records) -> Result<(), OrMemory<Stop>>
     requires { AreLendable origin.now records }
     ensures lent { OnOk result (LendDue zones.old origin.now records (Ok zones.new)) }
     ensures stops { IfErr result (ErrorIs (IsRefusal (λ why. LendDue zones.old origin.now records (Err why)))) }
@@ -25,11 +22,18 @@ pub(crate) fn lend(
         Err(LendFault::TooMany { .. }) => Err(refused(Refusal::TooManyRecords {
             origin: origin.clone()?,
         })),
-        Err(LendFault::AliasAndOther { name }) => Err(refused(Refusal::AliasAndOther {
-            origin: origin.clone()?,
-            name,
-        })),
+        Err(LendFault::AliasAndOther { name }) => Err(refused(clash(origin.clone()?, name))),
         // The words of no job have an origin twice in a group.
         Err(LendFault::SameOrigin | LendFault::Memory) => Err(OrMemory::Memory),
     }
+}
+
+/// The refusal of a zone with an alias beside other records at the name.
+fn clash(origin: Name, name: Name) -> Refusal
+    ensures legal { IsName name }
+    ensures is { result ≡ Refusal.AliasAndOther origin name }
+{
+    // The checker takes from this that the name is legal.
+    let _labels = name.label_count();
+    Refusal::AliasAndOther { origin, name }
 }

@@ -2,6 +2,7 @@
 #![tactic(auto)]
 
 mod inputs;
+mod laws;
 mod lending;
 mod loaded;
 mod memory;
@@ -11,6 +12,7 @@ mod stop;
 mod text;
 
 pub use inputs::load_inputs;
+pub use laws::one_loading;
 pub use loaded::Loaded;
 pub use memory::OrMemory;
 pub use refusal::Refusal;
