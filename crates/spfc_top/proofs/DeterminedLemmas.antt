@@ -26,7 +26,8 @@ use Rattle.spfc_top.specs.Zones.{Contents}
 use Rattle.spfc_top.specs.Findings.{PolicyDue, refused, kept, OutcomeDue, ZonesDue, IsDue}
 use Rattle.spfc_top.specs.Ends.{usage, job, OneIsDue}
 use Rattle.spfc_top.proofs.SameVerdicts.{Agree, rows_same, total_same, chosen_list_same}
-use Rattle.spfc_top.proofs.OutcomeLemmas.{some_once, one_outcome, agree_four, agree_six, one_refused, kept_or_refused}
+use Rattle.published_records.proofs.Publishing.{some_once}
+use Rattle.spfc_top.proofs.OutcomeLemmas.{one_outcome, agree_four, agree_six, one_refused, kept_or_refused}
 use Rattle.spfc_words.proofs.OneJob.{one_job}
 use Rattle.spfc_top.proofs.ZonesLemmas.{ok_twice, err_twice, ok_not, one_of_words}
 

@@ -7,16 +7,8 @@ pub mod LendingLemmas
 pub mod OneLending
 pub mod OutcomeLemmas
 pub mod ReadingLemmas
-pub mod RecordChains
-pub mod RecordTexts
 pub mod SameVerdicts
 pub mod ShortestLemmas
-pub mod StandingAlone
-pub mod StandingFound
-pub mod StandingKept
-pub mod StandingLists
-pub mod StandingPatched
-pub mod StandingRecords
-pub mod StandingTexts
+pub mod StandingLemmas
 pub mod WordsLemmas
 pub mod ZonesLemmas

@@ -1,5 +1,5 @@
 -- One outcome for each address, and verdicts that no list can change.
-use Rattle.std.proofs.Common.{◌≡◌, ◌<◌, ℕ, false, List, Some, Option, sym, ap, ◌∙◌, subst, true≢false, arith}
+use Rattle.std.proofs.Common.{◌≡◌, ◌<◌, ℕ, false, List, sym, ap, ◌∙◌, subst, true≢false, arith}
 use Rattle.addr_bits.specs.declared.address.Address.{Address}
 use Rattle.addr_bits.specs.declared.address.Address.TheVariants.{V4, V6}
 use Rattle.addr_bits.proofs.Texts.{one_address}
@@ -14,12 +14,10 @@ use Rattle.spf_model.specs.Check.{check_host}
 use Rattle.spf_model.proofs.RunLaws.{one_end}
 use Rattle.verdict_map.specs.Verdicts.{has_verdict}
 use Rattle.fewest_terms.proofs.Whole.{below_all}
+use Rattle.published_records.proofs.Publishing.{some_once}
 use Rattle.spfc_top.specs.Compiled.{verdict_at}
 use Rattle.spfc_top.specs.Findings.{StandsBefore, IsLeastRefused}
 use Rattle.spfc_top.proofs.SameVerdicts.{Agree}
-
-pub some_once : {A : Type 0} {found : Option A} {a b : A} → found ≡ Some a → found ≡ Some b → a ≡ b
-some_once p q = cc
 
 pub one_outcome : (zones : Answering) (limits : Limits) (domain : List ℕ) (a : Address) (o p : Outcome) → Gives zones limits domain a o → Gives zones limits domain a p → o ≡ p
 one_outcome zones limits domain a o p (name, counts, named, ends) (name', counts', named', ends') =

@@ -26,8 +26,8 @@ use Rattle.spfc_top.specs.Due.{Refuses, Gives}
 use Rattle.zone_answers.specs.Names.{has_own_alias, other_text_of}
 use Rattle.spfc_top.specs.Compiled.{Wanted, wanted, verdict_at, ListDue, too_big, taken, written, VerdictsDue, alias, packed, IsShortest}
 use Rattle.spfc_top.specs.Zones.{Contents}
-use Rattle.spfc_top.specs.Standing.{Stands}
-use Rattle.spfc_top.proofs.StandingKept.{stands}
+use Rattle.published_records.specs.Published.{Stands}
+use Rattle.spfc_top.proofs.StandingLemmas.{stands}
 use Rattle.spfc_top.proofs.WordsLemmas.{AreWords, words_wanted, named_so}
 use Rattle.spfc_words.specs.Words.{Spells}
 use Rattle.spfc_top.specs.Findings.{PolicyDue, refused, kept, IsDue, IsBest}
@@ -91,7 +91,7 @@ no_alias want zones name bytes v4 v6 (alias own is) = absurd (refuses_not is)
 no_alias want zones name bytes v4 v6 (packed none due) = none
 
 best_of_policy : (want : Wanted) (limits : Limits) (zones : List Zone) (bytes : List ℕ) → AreWords want → PolicyDue want limits zones (Gives bytes)
-    → (name : Labels) × (name_of want.domain ≡ Some name) × (best : IsShortest want limits zones name bytes) × Stands want zones name best.list best.ends bytes
+    → (name : Labels) × (name_of want.domain ≡ Some name) × (best : IsShortest want limits zones name bytes) × Stands want.domain want.label zones name best.list best.ends bytes
 best_of_policy want limits zones bytes words (refused address outcome least is) = absurd (refuses_not is)
 best_of_policy want limits zones bytes words (kept name v4 v6 named all due) =
     let best = shortest_of want limits zones name bytes v4 v6 all due in

@@ -1,22 +1,32 @@
 -- What the words of `compile` are to the records.
-use Rattle.std.proofs.Common.{◌≡◌, ℕ, ◌≤◌, List, [], ◌∷◌, Some, Ok, Err, Result, ap}
+use Rattle.std.proofs.Common.{◌≡◌, ℕ, suc, ◌+◌, ◌≤◌, IsTrue, List, [], ◌∷◌, ◌++◌, length, Some, Ok, Err, Result, ap, ◌∙◌, arith, length-append}
+use Rattle.std.specs.Prelude.{decimal}
+use Rattle.std.proofs.lemmas.Bool.{leb-true}
 use Rattle.dns_name.specs.Name.{name_of_text}
 use Rattle.dns_name.specs.declared.fault.NameFault.{NameFault}
 use Rattle.spf_model.specs.declared.outcome.Limits.{Limits}
 use Rattle.spf_model.specs.Judging.{Labels, legal, name_of}
+use Rattle.record_pack.specs.Records.{record_name}
 use Rattle.zone_writer.specs.Written.{AreChainWords}
 use Rattle.spfc_words.specs.declared.job.Job.TheVariants.{Compile}
 use Rattle.spfc_words.specs.declared.zone_word.ZoneWord.{ZoneWord}
-use Rattle.spfc_words.specs.Words.{IsCompiled, Spells}
+use Rattle.spfc_words.specs.Words.{has_room, IsCompiled, Spells}
 use Rattle.spfc_words.proofs.ChainWords.{compiled_words, compiled_bounds}
 use Rattle.spfc_top.specs.Compiled.{Wanted, wanted}
-use Rattle.spfc_top.proofs.RecordChains.{room_short}
+use Rattle.published_records.proofs.RecordChains.{ten_long}
 
 -- the domain and the label, and the bounds of the numbers
 pub record AreWords (want : Wanted) : Type 0 where
   pub chain : AreChainWords want.domain want.label
   pub small : want.size ≤ 4096
   pub lasting : want.ttl ≤ 2147483647
+
+-- a domain and a label with room for the number of the last record
+room_short : (domain label : List ℕ) → IsTrue (has_room label domain) → length (record_name domain label 10) ≤ 253
+room_short domain label room =
+    let whole : length ((label ++ decimal 10) ++ 46 ∷ domain) ≡ length label + 2 + suc (length domain) =
+    length-append (label ++ decimal 10) (46 ∷ domain) ∙ ap (λ n. n + suc (length domain)) (length-append label (decimal 10) ∙ ap (λ n. length label + n) ten_long) in
+    omega (arith, leb-true (length label + 3 + length domain) 253 room, whole)
 
 compiled_are : (word : List ℕ) (words : List (List ℕ)) (domain : List ℕ) (limits : Limits) (size ttl : ℕ) (label : List ℕ) (zones : List ZoneWord)
     → IsCompiled word words domain limits size ttl label zones → AreWords (wanted domain size ttl label)

@@ -22,7 +22,7 @@ use Rattle.verdict_map.specs.Verdicts.{has_verdict}
 use Rattle.spfc_top.specs.Lines.{line_of, refused_line}
 use Rattle.spfc_top.specs.Due.{Due, Refuses, Gives}
 use Rattle.spfc_top.specs.Compiled.{Wanted, wanted, verdict_at, VerdictsDue, IsShortest}
-use Rattle.spfc_top.specs.Standing.{Stands}
+use Rattle.published_records.specs.Published.{Stands}
 
 -- project's own choice: addresses stand in the order of their numbers, those of IPv4 first
 abbrev pub StandsBefore : Address → Address → Type 0
@@ -87,7 +87,7 @@ IsReady (Check domain address limits words) = IsOk (name_of_text domain) × AreM
 abbrev pub IsBest : Job → Contents → (bytes : List ℕ) → Type 0
 IsBest (Compile domain limits size ttl label words) held bytes =
     (zones : List Zone) × (name : Labels) × ZoneWordsDue held [] words (Ok zones) × (name_of domain ≡ Some name)
-    × (best : IsShortest (wanted domain size ttl label) limits zones name bytes) × Stands (wanted domain size ttl label) zones name best.list best.ends bytes
+    × (best : IsShortest (wanted domain size ttl label) limits zones name bytes) × Stands domain label zones name best.list best.ends bytes
 IsBest (Check domain address limits words) held bytes =
     (zones : List Zone) × (outcome : Outcome) × ZoneWordsDue held [] words (Ok zones) × model.Gives (says zones) limits domain address outcome
     × (bytes ≡ line_of [] (outcome_words outcome))

@@ -1,10 +1,8 @@
 pub mod Answers
-pub mod Chain
 pub mod Compiled
 pub mod Due
 pub mod Ended
 pub mod Ends
 pub mod Findings
 pub mod Lines
-pub mod Standing
 pub mod Zones

@@ -14,10 +14,7 @@ mod text;
 mod top;
 mod writing;
 
-pub use laws::{
-    one_is_due, records_are_chain, records_lead_on, records_spell, records_stand_alone,
-    records_stand_patched,
-};
+pub use laws::one_is_due;
 pub use top::run;
 
 #[cfg(test)]

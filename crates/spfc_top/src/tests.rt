@@ -196,11 +196,6 @@ fn a_shortest_list_is_written(rt: HostRuntime) -> Result<(), Fail> {
         try_output(&rt, rt.alloc(), case, 16)?;
     }
     one_is_due();
-    records_spell();
-    records_lead_on();
-    records_are_chain();
-    records_stand_alone();
-    records_stand_patched();
     Ok(())
 }
 

@@ -1,0 +1,9 @@
+pub mod Publishing
+pub mod RecordChains
+pub mod RecordTexts
+pub mod StandingAlone
+pub mod StandingFound
+pub mod StandingLists
+pub mod StandingPatched
+pub mod StandingRecords
+pub mod StandingTexts

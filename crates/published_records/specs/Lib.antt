@@ -1,0 +1,3 @@
+pub mod Chain
+pub mod Published
+pub mod Standing
