@@ -1,0 +1,8 @@
+use Rattle.spf_model.specs.Run.{says}
+use Rattle.job_compile.proofs.Evaluations.{kept_of, refused_address}
+use Rattle.job_compile.proofs.verdicts.kept_verdicts.Goals as goal
+
+pub returns-in-Ok-clause-kept : goal.returns-in-Ok-clause-kept
+returns-in-Ok-clause-kept c =
+    kept_of (says c.args.zones.now) c.args.limits c.args.domain.now c.in_ok-both.both.v4 c.in_ok-both.both.v6 c.in_ok-both.both.asked c.in-Ok.tries.v4 c.in-Ok.tries.v6
+    c.in_ok-both.ensures c.in-Ok.ensures.four c.in-Ok.ensures.six
