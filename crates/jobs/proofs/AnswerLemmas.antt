@@ -1,5 +1,6 @@
 -- What words come to, step by step.
-use Rattle.std.proofs.Common.{◌≡◌, ◌⊎◌, ◌||◌, ℕ, List, [], ◌∷◌, length, Ok, Err, IsTrue, Bool, true, false, refl, sym, ap, ◌∙◌, subst, inl, inr, IfOk, Result}
+use Rattle.std.proofs.Common.{◌≡◌, ◌⊎◌, ◌||◌, ℕ, List, [], ◌∷◌, length, Ok, Err, IsTrue, Bool, true, false}
+use Rattle.std.proofs.Common.{refl, sym, ap, ◌∙◌, subst, inl, inr, IfOk, Result}
 use Rattle.std.proofs.lemmas.Bool.{false≢true}
 use Rattle.std.specs.declared.alloc.AllocError.{AllocError}
 use Rattle.spfc_outer.specs.Seen.{FilesSeen}
@@ -20,12 +21,14 @@ told_or_none true inputs is = inl is
 told_or_none false [] is = inr refl
 told_or_none false (input ∷ inputs) is = absurd (false≢true is)
 
-loads_told : (files : FilesSeen) (m : Meaning) (loaded : Loaded) → (IsTrue files.told → Loads files.held m.inputs (Ok loaded)) → (m.inputs ≡ [] → loaded ≡ nothing)
+loads_told : (files : FilesSeen) (m : Meaning) (loaded : Loaded) → (IsTrue files.told
+    → Loads files.held m.inputs (Ok loaded)) → (m.inputs ≡ [] → loaded ≡ nothing)
     → IsTrue (tells files m) → Loads files.held m.inputs (Ok loaded)
 loads_told files m loaded done none is = elim (told_or_none files.told m.inputs is) [ inl told ↦ done told | inr empty ↦ rw (empty, none empty) refl ]
 
 -- a file is refused
-pub file_refused : (p : Program) (g : Given) (job : p.Job) (why : Refusal) → p.Spells g.words job → (IsTrue g.files.told → Loads g.files.held (p.meaning job).inputs (Err why)) → ((p.meaning job).inputs ≡ [] → ⊥)
+pub file_refused : (p : Program) (g : Given) (job : p.Job) (why : Refusal) → p.Spells g.words job
+    → (IsTrue g.files.told → Loads g.files.held (p.meaning job).inputs (Err why)) → ((p.meaning job).inputs ≡ [] → ⊥)
     → IsGiven p g (Refuses why)
 file_refused p g job why spells refused some = record {
   job = job;
@@ -37,7 +40,8 @@ file_refused p g job why spells refused some = record {
 }
 
 -- the job's answer is due
-pub job_given : (p : Program) (g : Given) (job : p.Job) (loaded : Loaded) (due : Due) → p.Spells g.words job → (IsTrue g.files.told → Loads g.files.held (p.meaning job).inputs (Ok loaded))
+pub job_given : (p : Program) (g : Given) (job : p.Job) (loaded : Loaded) (due : Due) → p.Spells g.words job
+    → (IsTrue g.files.told → Loads g.files.held (p.meaning job).inputs (Ok loaded))
     → ((p.meaning job).inputs ≡ [] → loaded ≡ nothing) → (p.meaning job).IsDue loaded due → IsGiven p g due
 job_given p g job loaded due spells done none is = record {
   job = job;
@@ -46,8 +50,10 @@ job_given p g job loaded due spells done none is = record {
 }
 
 -- and the best
-pub job_best : (p : Program) → AreLawful p → (g : Given) (job : p.Job) (loaded : Loaded) (output : Output) → p.Spells g.words job → (IsTrue g.files.told → Loads g.files.held (p.meaning job).inputs (Ok loaded))
-    → ((p.meaning job).inputs ≡ [] → loaded ≡ nothing) → (p.meaning job).IsDue loaded (Gives output) → IsBestOutput p g output
+pub job_best : (p : Program) → AreLawful p → (g : Given) (job : p.Job) (loaded : Loaded) (output : Output)
+    → p.Spells g.words job → (IsTrue g.files.told → Loads g.files.held (p.meaning job).inputs (Ok loaded))
+    → ((p.meaning job).inputs ≡ [] → loaded ≡ nothing) → (p.meaning job).IsDue loaded (Gives output)
+    → IsBestOutput p g output
 job_best p laws g job loaded output spells done none is = record {
   job = job;
   is_job = spells;

@@ -12,7 +12,8 @@ returns-in-Err-Error-Refused g c =
     let given : Given = record { words = texts c.args.words.now; files = g.F.Files.seen c.args.files.now } in
     let h = c.in-Err-Error-Refused.ensures in
     said p given (g.F.Files.seen c.load_inputs.new.files) _ _ c.say.result c.say.ensures
-    (finding c.in-Err-Error-Refused.why (file_refused p given c.in-Some.job c.in-Err-Error-Refused.why (rw c.in-Some.is at c.in_ok-job.ensures.spelled)
+    (finding c.in-Err-Error-Refused.why (file_refused p given c.in-Some.job c.in-Err-Error-Refused.why
+    (rw c.in-Some.is at c.in_ok-job.ensures.spelled)
     (rw (c.in-Err-Error-Refused.field-0-is, c.in-Err-Error-Refused.field-0-0-is, c.inputs.ensures) at h.stops)
     (λ empty. err_ok (h.none (c.inputs.ensures ∙ empty)))) refl refl)
 
@@ -31,6 +32,7 @@ returns-in-Err-Error g c =
     let p : Program = program g.J.Job.spells g.J.Job.meaning in
     let given : Given = record { words = texts c.args.words.now; files = g.F.Files.seen c.args.files.now } in
     said p given (g.F.Files.seen c.load_inputs.new.files) _ _ c.say-in-Err-Error.result c.say-in-Err-Error.ensures
-    (finding c.in-Err-Error.why (job_given p given c.in-Some.job c.in-Ok.loaded (Refuses c.in-Err-Error.why) (rw c.in-Some.is at c.in_ok-job.ensures.spelled)
+    (finding c.in-Err-Error.why (job_given p given c.in-Some.job c.in-Ok.loaded (Refuses c.in-Err-Error.why)
+    (rw c.in-Some.is at c.in_ok-job.ensures.spelled)
     (rw c.inputs.ensures at c.in-Ok.ensures.done) (λ empty. ok_is (c.in-Ok.ensures.none (c.inputs.ensures ∙ empty)))
     (rw c.in-Err-Error.field-0-is at c.in-Err-Error.ensures.refused)) refl refl)
