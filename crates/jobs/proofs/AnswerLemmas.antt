@@ -21,10 +21,11 @@ told_or_none true inputs is = inl is
 told_or_none false [] is = inr refl
 told_or_none false (input ∷ inputs) is = absurd (false≢true is)
 
-loads_told : (files : FilesSeen) (m : Meaning) (loaded : Loaded) → (IsTrue files.told
-    → Loads files.held m.inputs (Ok loaded)) → (m.inputs ≡ [] → loaded ≡ nothing)
+loads_told : (files : FilesSeen) (m : Meaning) (loaded : Loaded)
+    → (IsTrue files.told → Loads files.held m.inputs (Ok loaded)) → (m.inputs ≡ [] → loaded ≡ nothing)
     → IsTrue (tells files m) → Loads files.held m.inputs (Ok loaded)
-loads_told files m loaded done none is = elim (told_or_none files.told m.inputs is) [ inl told ↦ done told | inr empty ↦ rw (empty, none empty) refl ]
+loads_told files m loaded done none is =
+    elim (told_or_none files.told m.inputs is) [ inl told ↦ done told | inr empty ↦ rw (empty, none empty) refl ]
 
 -- a file is refused
 pub file_refused : (p : Program) (g : Given) (job : p.Job) (why : Refusal) → p.Spells g.words job
@@ -46,7 +47,11 @@ pub job_given : (p : Program) (g : Given) (job : p.Job) (loaded : Loaded) (due :
 job_given p g job loaded due spells done none is = record {
   job = job;
   is_job = spells;
-  is_due = λ tell. record { found = Ok loaded; loads = loads_told g.files (p.meaning job) loaded done none tell; behind = is };
+  is_due = λ tell. record {
+    found = Ok loaded;
+    loads = loads_told g.files (p.meaning job) loaded done none tell;
+    behind = is;
+  };
 }
 
 -- and the best
@@ -57,7 +62,11 @@ pub job_best : (p : Program) → AreLawful p → (g : Given) (job : p.Job) (load
 job_best p laws g job loaded output spells done none is = record {
   job = job;
   is_job = spells;
-  is_best = λ tell. (loaded, loads_told g.files (p.meaning job) loaded done none tell, (laws.lawful job).best (laws.ready g.words job spells) loaded output is);
+  is_best = λ tell. (
+    loaded,
+    loads_told g.files (p.meaning job) loaded done none tell,
+    (laws.lawful job).best (laws.ready g.words job spells) loaded output is,
+  );
 }
 
 -- ---- results
@@ -68,7 +77,8 @@ pub ok_is : {A E : Type 0} {x y : A} → (let a : Result A E = Ok x in a ≡ Ok 
 ok_is e = cc
 
 -- a line that is due is the answer
-pub said : (p : Program) (g : Given) (after : FilesSeen) (status : ℕ) (line : List ℕ) (result : Result Answer AllocError) → IfOk result (λ answer. answer ≡ Says status line) → LineDue p g after status line
+pub said : (p : Program) (g : Given) (after : FilesSeen) (status : ℕ) (line : List ℕ) (result : Result Answer AllocError)
+    → IfOk result (λ answer. answer ≡ Says status line) → LineDue p g after status line
     → IfOk result (IsAnswer p g after)
 said p g after status line (Ok answer) is due = subst (λ a. IsAnswer p g after a) (sym is) due
 said p g after status line (Err e) is due = tt

@@ -26,7 +26,8 @@ pub fn answer_words<J: Job, F: Files>(
     words: &[String],
     files: &mut F,
 ) -> Result<Answer, AllocError>
-    ensures { IfOk result (IsAnswer (program J.spells J.meaning) (given words.now (F.seen files.old)) (F.seen files.new)) }
+    ensures { IfOk result
+        (IsAnswer (program J.spells J.meaning) (given words.now (F.seen files.old)) (F.seen files.new)) }
 {
     let Some(job) = J::read(alloc, words)? else {
         let line = line(alloc, "usage", b"")?;

@@ -1,6 +1,6 @@
 -- Files come to one thing.
-use Rattle.std.proofs.Common.{◌≡◌, ◌≢◌, ◌<◌, ◌≤◌, ℕ, Bool, List, [], ◌∷◌, length, Some, None, Ok, Err, Result, IsTrue, IsFalse}
-use Rattle.std.proofs.Common.{ap, sym, ◌∙◌, arith, subst, refl}
+use Rattle.std.proofs.Common.{◌≡◌, ◌≢◌, ◌<◌, ◌≤◌, ℕ, Bool, List, [], ◌∷◌, length, Some, None, Ok, Err, Result}
+use Rattle.std.proofs.Common.{IsTrue, IsFalse, ap, sym, ◌∙◌, arith, subst, refl}
 use Rattle.std.specs.declared.option.Option.{Option}
 use Rattle.std.specs.declared.cmp.Ordering.{Ordering}
 use Rattle.std.specs.declared.cmp.Ordering.TheVariants.{Less, Equal, Greater}
@@ -21,7 +21,8 @@ use Rattle.spfc_words.specs.declared.input.Place.TheVariants as place
 use Rattle.loading.specs.declared.loaded.Loaded.{Loaded}
 use Rattle.loading.specs.declared.refusal.Refusal.{Refusal}
 use Rattle.loading.specs.declared.refusal.Refusal.TheVariants.{BadZone, AliasAndOther}
-use Rattle.loading.specs.Loading.{FileDue, no_file, long_file, whole, ReadingDue, bad_zone, read, LendDue, too_many, clash, lent}
+use Rattle.loading.specs.Loading.{FileDue, no_file, long_file, whole, ReadingDue, bad_zone, read}
+use Rattle.loading.specs.Loading.{LendDue, too_many, clash, lent}
 use Rattle.loading.specs.Loading.{Then, RecordsDue, ZonesDue, nothing, PlaceDue, InputsDue, Loads}
 
 some_is : {x y : List ℕ} → Some x ≡ Some y → x ≡ y
@@ -54,7 +55,8 @@ one_reading origin file c x y (bad_zone l k bad e) (bad_zone m j bad' f) =
     e ∙ (ap Err (same_bad file l m k j (faults_once origin c l m k j bad bad')) ∙ sym f)
 one_reading origin file c x y (bad_zone l k bad e) (read r reads f) = absurd (reads_not_faults origin c r l k reads bad)
 one_reading origin file c x y (read r reads e) (bad_zone l k bad f) = absurd (reads_not_faults origin c r l k reads bad)
-one_reading origin file c x y (read r reads e) (read s reads' f) = e ∙ (ap Ok (reads_once origin c r s reads reads') ∙ sym f)
+one_reading origin file c x y (read r reads e) (read s reads' f) =
+    e ∙ (ap Ok (reads_once origin c r s reads reads') ∙ sym f)
 
 -- ---- lending
 -- texts of which none is above the other are equal
@@ -79,9 +81,11 @@ one_lend zones origin records x y (clash name legal a e) (clash other legal' b f
     let same : printed_name name ≡ printed_name other = both_at_most (printed_name name) (printed_name other)
     (a.2.least other b.2.clashes) (b.2.least name a.2.clashes) in
     e ∙ (ap (λ n. Err (AliasAndOther origin n)) (names_differ name other legal legal' same) ∙ sym f)
-one_lend zones origin records x y (clash name legal a e) (lent free f) = absurd (no_clash _ (free.no_clash name) a.2.clashes)
+one_lend zones origin records x y (clash name legal a e) (lent free f) =
+    absurd (no_clash _ (free.no_clash name) a.2.clashes)
 one_lend zones origin records x y (lent free e) (too_many n b f) = absurd (omega (arith, b.1, b.2, free.room))
-one_lend zones origin records x y (lent free e) (clash name legal b f) = absurd (no_clash _ (free.no_clash name) b.2.clashes)
+one_lend zones origin records x y (lent free e) (clash name legal b f) =
+    absurd (no_clash _ (free.no_clash name) b.2.clashes)
 one_lend zones origin records x y (lent free e) (lent free' f) = e ∙ sym f
 
 -- ---- steps

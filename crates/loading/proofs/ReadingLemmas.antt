@@ -53,11 +53,13 @@ long_due origin file contents long = (Err (LongFile file), long_file contents re
 
 pub bad_due : (origin : List (List ℕ)) (file contents : List ℕ) (line : ℕ) (kind : Kind) → length contents ≤ most_bytes
     → Faults origin contents line kind → RecordsDue (Some contents) origin file (Err (BadZone file line kind))
-bad_due origin file contents line kind short bad = (Ok contents, whole contents refl short refl, bad_zone line kind bad refl)
+bad_due origin file contents line kind short bad =
+    (Ok contents, whole contents refl short refl, bad_zone line kind bad refl)
 
 pub read_due : (origin : List (List ℕ)) (file contents : List ℕ) (records : List Record) → length contents ≤ most_bytes
     → Reads origin contents records → RecordsDue (Some contents) origin file (Ok records)
-read_due origin file contents records short reads = (Ok contents, whole contents refl short refl, read records reads refl)
+read_due origin file contents records short reads =
+    (Ok contents, whole contents refl short refl, read records reads refl)
 
 -- a refusal of the contents is one of the file that holds them
 pub judged_stops : (before after : FilesSeen) (origin : List (List ℕ)) (file : List ℕ) (held : Option (List ℕ))

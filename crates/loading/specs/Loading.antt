@@ -33,7 +33,8 @@ pub data FileDue (held : Option (List ℕ)) (file : List ℕ) (found : Result (L
       → found ≡ Ok contents → FileDue held file found
 
 -- RFC 1035, section 5.1: what the contents of a zone's file come to: the records of its reading, or its first fault
-pub data ReadingDue (origin : List (List ℕ)) (file contents : List ℕ) (found : Result (List Record) Refusal) : Type 0 where
+pub data ReadingDue (origin : List (List ℕ)) (file contents : List ℕ)
+    (found : Result (List Record) Refusal) : Type 0 where
   bad_zone : (line : ℕ) (kind : Kind) → Faults origin contents line kind
       → found ≡ Err (BadZone file line kind) → ReadingDue origin file contents found
   read : (records : List Record) → Reads origin contents records → found ≡ Ok records

@@ -17,4 +17,4 @@ pub use loaded::Loaded;
 pub use memory::OrMemory;
 pub use refusal::Refusal;
 pub use stop::Stop;
-pub use text::line;
+pub use text::{copied, line};

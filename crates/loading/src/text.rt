@@ -124,7 +124,7 @@ pub(crate) fn taken(alloc: Global, number: u64, name: &[u8]) -> Result<Bytes, Al
 }
 
 /// A copy of the bytes.
-pub(crate) fn copied(alloc: Global, bytes: &[u8]) -> Result<Bytes, AllocError>
+pub fn copied(alloc: Global, bytes: &[u8]) -> Result<Bytes, AllocError>
     ensures { IfOk result (λ copy. copy ≡ bytes.now) }
 {
     let mut copy = Bytes::new(alloc);

@@ -25,7 +25,8 @@ returns-in-Other-clause-stops g c =
 
 pub returns-in_err-loaded-in-File-clause-stops : goal.returns-in_err-loaded-in-File-clause-stops
 returns-in_err-loaded-in-File-clause-stops g c =
-    let stops = error_also _ _ (stops_also _ _ c.args.input.now.file _ (λ why. InputDue (g.F.Files.seen c.args.files.now).held c.args.loaded.now c.args.input.now (Err why))
+    let stops = error_also _ _ (stops_also _ _ c.args.input.now.file _
+    (λ why. InputDue (g.F.Files.seen c.args.files.now).held c.args.loaded.now c.args.input.now (Err why))
     (λ why told due. rw c.in-File.is (Err why, due, refl))) c.in_err-loaded-in-File.field-0.0
     (rw c.as_slice-file.ensures at c.in_err-loaded-in-File.ensures.stops) in
     search (rules, stops)

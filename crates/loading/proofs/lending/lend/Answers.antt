@@ -9,5 +9,6 @@ returns-in_ok-clone-in-Err-TooMany-clause-stops c =
 
 pub returns-in_ok-clone-in-Err-AliasAndOther-clause-stops : goal.returns-in_ok-clone-in-Err-AliasAndOther-clause-stops
 returns-in_ok-clone-in-Err-AliasAndOther-clause-stops c =
-    rw (c.refused-in-Err-AliasAndOther.ensures, c.clash.ensures.is, c.in_ok-clone-in-Err-AliasAndOther.ensures.cases) (clash _ c.clash.ensures.legal
+    rw (c.refused-in-Err-AliasAndOther.ensures, c.clash.ensures.is, c.in_ok-clone-in-Err-AliasAndOther.ensures.cases)
+    (clash _ c.clash.ensures.legal
     (rw (c.in-Err-AliasAndOther.field-0-is, c.in_ok-clone.ensures.cases) at c.in-Err-AliasAndOther.ensures.refused) refl)

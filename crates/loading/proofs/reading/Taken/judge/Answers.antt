@@ -23,5 +23,7 @@ returns-in-Ok-clause-lendable c = λ origin contents ends.
 pub returns-in_ok-file-in-Err-Bad-clause-stops : goal.returns-in_ok-file-in-Err-Bad-clause-stops
 returns-in_ok-file-in-Err-Bad-clause-stops c = λ origin contents ends.
     let short : c.args.self.count ≤ 8388608 = omega (arith, c.if-self-gt-MAX_FILE.false) in
-    let bad = rw c.in-Err-Bad.field-0-is at (c.in-Err-Bad.ensures.bad origin contents (whole_contents origin contents _ ends short)) in
-    rw (c.refused-in-Err-Bad.ensures, c.in_ok-file-in-Err-Bad.ensures) (bad_due origin c.args.file.now contents _ _ (short_contents origin contents _ ends short) bad)
+    let comes = whole_contents origin contents _ ends short in
+    let bad = rw c.in-Err-Bad.field-0-is at (c.in-Err-Bad.ensures.bad origin contents comes) in
+    rw (c.refused-in-Err-Bad.ensures, c.in_ok-file-in-Err-Bad.ensures)
+    (bad_due origin c.args.file.now contents _ _ (short_contents origin contents _ ends short) bad)
