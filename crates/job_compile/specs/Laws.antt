@@ -11,9 +11,9 @@ use Rattle.job_compile.specs.Meaning.{IsReady, IsBest, meaning_of_compile}
 use Rattle.job_compile.specs.Policy.{PolicyDue}
 use Rattle.job_compile.specs.Words.{SpellsCompile, compile_options}
 use Rattle.job_compile.specs.declared.compile.Compile.{Compile}
-use Rattle.job_compile.proofs.LegalSettings.{one_settings, settings_legal}
-use Rattle.job_compile.proofs.OnePolicy.{one_policy_due}
-use Rattle.job_compile.proofs.ShortestPolicy.{policy_best}
+use Rattle.job_compile.specs.LegalSettings.{one_settings, settings_legal}
+use Rattle.job_compile.specs.OnePolicy.{one_policy_due}
+use Rattle.job_compile.specs.ShortestPolicy.{policy_best}
 
 pub compile_ready : (words : List (List ℕ)) (job : Compile) → SpellsCompile words job → IsReady job
 compile_ready [] job is = absurd is

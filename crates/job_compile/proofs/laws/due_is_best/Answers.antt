@@ -1,4 +1,4 @@
-use Rattle.job_compile.proofs.BestPublication.{due_is_best}
+use Rattle.job_compile.specs.BestPublication.{due_is_best}
 use Rattle.job_compile.proofs.laws.due_is_best.Goals as goal
 
 pub returns : goal.returns

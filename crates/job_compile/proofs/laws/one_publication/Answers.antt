@@ -1,4 +1,4 @@
-use Rattle.job_compile.proofs.OnePublication.{one_publication}
+use Rattle.job_compile.specs.OnePublication.{one_publication}
 use Rattle.job_compile.proofs.laws.one_publication.Goals as goal
 
 pub returns : goal.returns

@@ -24,7 +24,7 @@ use Rattle.job_compile.specs.Policy.{PolicyDue, refused, kept, due_of, IsShortes
 use Rattle.job_compile.specs.Published.{PublicationDue, IsBestPublication, verdict_at}
 use Rattle.job_compile.specs.Settings.{AreLegal}
 use Rattle.job_compile.specs.declared.settings.ChainSettings.{ChainSettings}
-use Rattle.job_compile.proofs.BestPublication.{due_is_best}
+use Rattle.job_compile.specs.BestPublication.{due_is_best}
 
 -- a list that gives each address its verdict, as each family sees it
 seen_same : (zones : Answering) (limits : Limits) (domain : List ℕ) (other : List FlatTerm) (v4 v6 : ℕ → Verdict) → AllHave zones limits domain (verdict_at v4 v6) → HavePrefixes other

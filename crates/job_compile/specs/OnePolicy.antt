@@ -17,7 +17,7 @@ use Rattle.jobs.specs.Meaning.{Due, Refuses}
 use Rattle.job_compile.specs.Policy.{StandsBefore, IsLeastRefused, PolicyDue, refused, kept, due_of}
 use Rattle.job_compile.specs.Published.{verdict_at}
 use Rattle.job_compile.specs.declared.settings.ChainSettings.{ChainSettings}
-use Rattle.job_compile.proofs.OnePublication.{one_publication}
+use Rattle.job_compile.specs.OnePublication.{one_publication}
 
 -- ---- one address is the least that is refused
 -- an address has a verdict or none

@@ -1,5 +1,5 @@
 -- A fragment that is due is best.
-use Rattle.std.proofs.Common.{◌≡◌, ℕ, zero, suc, ◌+◌, ◌<◌, ◌≤◌, IsFalse, List, length, Ok, Err, refl, sym, subst, arith}
+use Rattle.std.proofs.Common.{◌≡◌, ℕ, zero, suc, ◌+◌, ◌<◌, ◌≤◌, IsFalse, List, length, Result, Ok, Err, refl, sym, subst, arith}
 use Rattle.dns_name.specs.Name.{name_of_text}
 use Rattle.zone_answers.specs.Names.{has_own_alias, is_taken, other_text_of}
 use Rattle.zone_answers.specs.Zone.{Zone}
@@ -10,7 +10,7 @@ use Rattle.fewest_terms.specs.Totals.{total}
 use Rattle.fewest_terms.proofs.AnswerLemmas.{list-same, list-shortest, list-counted, list-prefixes}
 use Rattle.fewest_terms.proofs.TableLemmas.{need_rows-good}
 use Rattle.zone_writer.specs.Written.{record_owner}
-use Rattle.published_records.specs.Published.{AreNamesFree}
+use Rattle.published_records.specs.Published.{AreNamesFree, Stands}
 use Rattle.published_records.proofs.Publishing.{fragment_stands}
 use Rattle.published_records.proofs.RecordChains.{next_named}
 use Rattle.loading.specs.declared.refusal.Refusal.{Refusal}
@@ -22,8 +22,8 @@ use Rattle.job_compile.specs.declared.settings.ChainSettings.{ChainSettings}
 ok_not_err : {bytes : List ℕ} {why : Refusal} → Ok bytes ≡ Err why → ⊥
 ok_not_err e = cc
 
-ok_once : {a b : List ℕ} → Ok {E = Refusal} a ≡ Ok b → a ≡ b
-ok_once e = cc
+ok_once : (a b : List ℕ) (r : Result (List ℕ) Refusal) → r ≡ Ok a → r ≡ Ok b → a ≡ b
+ok_once a b r e f = cc
 
 -- the names behind the first are free
 free_owner : (want : ChainSettings) (zones : List Zone) (records : ℕ) → AreLegal want → records ≤ 11 → AreFree want zones records
@@ -53,7 +53,7 @@ list_best want zones v4 v6 bytes legal no_alias (written ends chosen free is) =
       rows4 = need_rows 32 v4 32 0;
       rows6 = need_rows 128 v6 128 0;
       sum = total v4 v6;
-      written = ok_once is;
+      written = ok_once bytes _ _ refl is;
       fits = chosen.fits;
       fewest = chosen.fewest;
       free = free;
@@ -63,7 +63,7 @@ list_best want zones v4 v6 bytes legal no_alias (written ends chosen free is) =
       table = rows_good v4 v6;
       counted = list-counted v4 v6 (chosen_list v4 v6) (total v4 v6) refl refl;
       stands = λ holds.
-          subst (λ b. Stands want.domain.text want.label zones want.domain.name (chosen_list v4 v6) ends b) (sym (ok_once is))
+          subst (λ b. Stands want.domain.text want.label zones want.domain.name (chosen_list v4 v6) ends b) (sym (ok_once bytes _ _ refl is))
           (fragment_stands zones want.domain.text want.label want.ttl want.size (other_text_of zones want.domain.name) (chosen_list v4 v6) ends
           (need_rows 32 v4 32 0) (need_rows 128 v6 128 0) (total v4 v6) want.domain.name legal.chain legal.named legal.lasting legal.small prefixes chosen.fits
           holds no_alias (free_owner want zones (length ends) legal chosen.fits.cut.few free));
