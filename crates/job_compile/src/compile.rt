@@ -8,9 +8,9 @@ ghost use Rattle.jobs.specs.Meaning.{Reads};
 ghost use Rattle.job_compile.specs.Words.{SpellsCompile};
 ghost use Rattle.job_compile.specs.Policy.{PolicyDue, due_of};
 
+use crate::publish;
 use crate::settings::{ChainSettings, LABEL, SIZE, TTL, read_settings};
 use crate::verdicts::kept_verdicts;
-use crate::publish;
 use addr_bits::Bytes;
 use jobs::{Job, Output};
 use loading::{Loaded, OrMemory, Refusal};
@@ -81,11 +81,7 @@ impl Job for Compile {
 }
 
 /// The job of a domain and the words behind it: options of the reading limits and of a chain, and zone words.
-fn read_behind(
-    alloc: Global,
-    domain: &str,
-    rest: &[String],
-) -> Result<Option<Compile>, AllocError>
+fn read_behind(alloc: Global, domain: &str, rest: &[String]) -> Result<Option<Compile>, AllocError>
     ensures { Reads SpellsCompile (domain.now ∷ texts rest.now) result }
 {
     let Some(settings) = read_settings(alloc, OPTIONS, domain, rest)? else {

@@ -4,11 +4,11 @@
 mod compile;
 mod laws;
 mod names;
-mod publish;
+mod publishing;
 mod settings;
 mod verdicts;
 
 pub use compile::Compile;
 pub use laws::{due_is_best, one_publication};
-pub use publish::publish;
+pub use publishing::publish;
 pub use settings::{ChainSettings, LABEL, SIZE, TTL, read_settings};

@@ -35,11 +35,7 @@ pub(crate) fn refuse_taken(
 }
 
 /// The name of a record behind the first.
-fn write_name(
-    alloc: Global,
-    settings: &ChainSettings,
-    number: u64,
-) -> Result<Bytes, AllocError>
+fn write_name(alloc: Global, settings: &ChainSettings, number: u64) -> Result<Bytes, AllocError>
     requires { 1 ≤ number }
     ensures { IfOk result (λ name. name ≡ name_text settings.now number) }
 {

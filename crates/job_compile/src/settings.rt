@@ -8,9 +8,7 @@ ghost use Rattle.job_compile.specs.declared.settings.ChainSettings.{ChainSetting
 
 use addr_bits::Bytes;
 use spf_macros::is_label;
-use spfc_words::{
-    Domain, NumberRow, Row, TextRow, lowercase, read_domain, read_number, read_text,
-};
+use spfc_words::{Domain, NumberRow, Row, TextRow, lowercase, read_domain, read_number, read_text};
 use std::alloc::{AllocError, Global};
 
 /// `--size N`: what a record takes is less than this, in octets (RFC 7208, section 3.4).
@@ -89,11 +87,7 @@ pub fn read_settings(
 }
 
 /// The label among the options in front of the words, in lower case.
-fn read_label(
-    alloc: Global,
-    rows: &[Row],
-    words: &[String],
-) -> Result<Option<Bytes>, AllocError>
+fn read_label(alloc: Global, rows: &[Row], words: &[String]) -> Result<Option<Bytes>, AllocError>
     ensures { let Is = IsLabelOption (map plain rows.now) (texts words.now) in
         IfOk result (λ label. MatchOption label ((any : List ℕ) → ¬ Is any) Is) }
 {
