@@ -30,24 +30,16 @@ impl HostFiles {
 }
 
 impl Files for HostFiles {
-    ghost use Rattle.std.specs.Prelude.{[], false, None};
-    ghost use Rattle.spfc_outer.specs.Host.{host_files_faults, host_has_chosen};
+    ghost use Rattle.std.specs.Prelude.{[]};
+    ghost use Rattle.spfc_outer.specs.Host.{host_files_seen, host_has_chosen};
 
-    ghost told = { λ _. false };
-
-    ghost held = { λ _ _. None };
+    ghost seen = { host_files_seen };
 
     ghost is_chosen = { host_has_chosen };
 
     ghost chosen_name = { λ _. [] };
 
     ghost rest = { λ _. [] };
-
-    ghost last_fault = { λ _. None };
-
-    ghost faults = { host_files_faults };
-
-    ghost is_assured = { λ _. false };
 
     fn open_file(&mut self, name: &[u8]) -> Result<Opened, OpenFault> {
         let Ok(path) = str::from_utf8(name) else {
@@ -128,14 +120,9 @@ impl HostSink {
 }
 
 impl Sink for HostSink {
-    ghost use Rattle.std.specs.Prelude.{None};
-    ghost use Rattle.spfc_outer.specs.Host.{host_sink_faults};
+    ghost use Rattle.spfc_outer.specs.Host.{host_sink_seen};
 
-    ghost bytes = { λ _. None };
-
-    ghost faults = { host_sink_faults };
-
-    ghost assured = { λ _. 0 };
+    ghost seen = { host_sink_seen };
 
     fn write(&mut self, piece: &[u8]) -> Result<usize, Failed> {
         let written = match &self.stream {

@@ -1,9 +1,11 @@
 //! Reads a file whole, up to a limit.
-ghost use Rattle.std.specs.Prelude.{◌≡◌, ◌<◌, ◌≤◌, ◌++◌, [], Some, true, false, take, IsTrue, IsErrOf, IfOk, OnOk, vec_len};
+ghost use Rattle.std.specs.Prelude.{◌≡◌, ◌<◌, ◌≤◌, ◌++◌, [], Some, true, false, length, take, IsTrue, IsErrOf, IfOk, OnOk};
 ghost use Rattle.spfc_outer.specs.Causes.{HasOpenCause};
 ghost use Rattle.spfc_outer.specs.Moved.{IsLoaded};
+ghost use Rattle.spfc_outer.specs.Seen.{Keeps, FailsAt};
 
 use crate::{Files, OpenFault, Opened};
+use addr_bits::Bytes;
 use std::alloc::Global;
 
 /// Chooses the file of this name and reads it, at most `most` bytes of it. `None` where there is no such file.
@@ -12,14 +14,10 @@ pub fn load<F: Files>(
     files: &mut F,
     name: &[u8],
     most: usize,
-) -> Result<Option<Vec<u8>>, OpenFault>
-    ensures told { F.told files.new ≡ F.told files.old }
-    ensures held { F.held files.new ≡ F.held files.old }
-    ensures loaded { IsTrue (F.told files.old) → IfOk result (IsLoaded (F.held files.old name.now) most) }
-    ensures named { IsTrue (F.told files.old) → IsErrOf result OpenFault.Failed → F.last_fault files.new ≡ Some name.now }
-    ensures cause { HasOpenCause (F.faults files.old) (F.faults files.new) result }
-    ensures assured { IsTrue (F.is_assured files.old) → IsTrue (F.is_assured files.new) }
-    ensures never_fails { IsTrue (F.is_assured files.old) → IsErrOf result OpenFault.Failed → ⊥ }
+) -> Result<Option<Bytes>, OpenFault>
+    ensures keeps { Keeps (F.seen files.old) (F.seen files.new) }
+    ensures loaded { IsTrue (F.seen files.old).told → IfOk result (IsLoaded ((F.seen files.old).held name.now) most) }
+    ensures fails { IsErrOf result OpenFault.Failed → FailsAt (F.seen files.old) (F.seen files.new) name.now }
 {
     match files.open_file(name)? {
         Opened::Missing => Ok(None),
@@ -30,18 +28,19 @@ pub fn load<F: Files>(
     }
 }
 
-// Reads the chosen file, at most so many bytes of it.
-fn read_rest<F: Files>(alloc: Global, files: &mut F, most: usize) -> Result<Vec<u8>, OpenFault>
+/// Reads the chosen file, at most so many bytes of it.
+fn read_rest<F: Files>(alloc: Global, files: &mut F, most: usize) -> Result<Bytes, OpenFault>
     requires { IsTrue (F.is_chosen files.old) }
-    ensures told { F.told files.new ≡ F.told files.old }
-    ensures held { F.held files.new ≡ F.held files.old }
-    ensures bytes { IsTrue (F.told files.old) → IfOk result (λ v. v.items ≡ take most (F.rest files.old)) }
-    ensures named { IsTrue (F.told files.old) → IsErrOf result OpenFault.Failed → F.last_fault files.new ≡ Some (F.chosen_name files.old) }
-    ensures cause { HasOpenCause (F.faults files.old) (F.faults files.new) result }
-    ensures assured { IsTrue (F.is_assured files.old) → IsTrue (F.is_assured files.new) }
-    ensures never_fails { IsTrue (F.is_assured files.old) → IsErrOf result OpenFault.Failed → ⊥ }
+    ensures told { (F.seen files.new).told ≡ (F.seen files.old).told }
+    ensures held { (F.seen files.new).held ≡ (F.seen files.old).held }
+    ensures bytes { IsTrue (F.seen files.old).told → IfOk result (λ bytes. bytes ≡ take most (F.rest files.old)) }
+    ensures named { IsTrue (F.seen files.old).told → IsErrOf result OpenFault.Failed
+        → (F.seen files.new).last_fault ≡ Some (F.chosen_name files.old) }
+    ensures cause { HasOpenCause (F.seen files.old).faults (F.seen files.new).faults result }
+    ensures assured { IsTrue (F.seen files.old).is_assured → IsTrue (F.seen files.new).is_assured }
+    ensures never_fails { IsTrue (F.seen files.old).is_assured → IsErrOf result OpenFault.Failed → ⊥ }
 {
-    let mut bytes = Vec::new(alloc);
+    let mut bytes = Bytes::new(alloc);
     while bytes.len() < most {
         let at_end = read_piece(files, &mut bytes, most)?;
         if at_end {
@@ -51,25 +50,27 @@ fn read_rest<F: Files>(alloc: Global, files: &mut F, most: usize) -> Result<Vec<
     Ok(bytes)
 }
 
-// How many bytes are read at once.
+/// How many bytes are read at once.
 const PIECE: usize = 4096;
 
-// Reads once, and says whether the file is at its end.
-fn read_piece<F: Files>(files: &mut F, bytes: &mut Vec<u8>, most: usize) -> Result<bool, OpenFault>
+/// Reads once, and says whether the file is at its end.
+fn read_piece<F: Files>(files: &mut F, bytes: &mut Bytes, most: usize) -> Result<bool, OpenFault>
     requires chosen { IsTrue (F.is_chosen files.old) }
-    requires room { vec_len bytes.old < most }
-    ensures told { F.told files.new ≡ F.told files.old }
-    ensures held { F.held files.new ≡ F.held files.old }
+    requires room { length bytes.old < most }
+    ensures told { (F.seen files.new).told ≡ (F.seen files.old).told }
+    ensures held { (F.seen files.new).held ≡ (F.seen files.old).held }
     ensures chosen { IsTrue (F.is_chosen files.new) }
-    ensures name { IsTrue (F.told files.old) → F.chosen_name files.new ≡ F.chosen_name files.old }
-    ensures moved { IsTrue (F.told files.old) → OnOk result (bytes.old.items ++ F.rest files.old ≡ bytes.new.items ++ F.rest files.new) }
-    ensures end { IsTrue (F.told files.old) → result ≡ Ok true → F.rest files.new ≡ [] }
-    ensures grows { result ≡ Ok false → vec_len bytes.old < vec_len bytes.new }
-    ensures within { OnOk result (vec_len bytes.new ≤ most) }
-    ensures named { IsTrue (F.told files.old) → IsErrOf result OpenFault.Failed → F.last_fault files.new ≡ Some (F.chosen_name files.old) }
-    ensures cause { HasOpenCause (F.faults files.old) (F.faults files.new) result }
-    ensures assured { IsTrue (F.is_assured files.old) → IsTrue (F.is_assured files.new) }
-    ensures never_fails { IsTrue (F.is_assured files.old) → IsErrOf result OpenFault.Failed → ⊥ }
+    ensures name { IsTrue (F.seen files.old).told → F.chosen_name files.new ≡ F.chosen_name files.old }
+    ensures moved { IsTrue (F.seen files.old).told
+        → OnOk result (bytes.old ++ F.rest files.old ≡ bytes.new ++ F.rest files.new) }
+    ensures end { IsTrue (F.seen files.old).told → result ≡ Ok true → F.rest files.new ≡ [] }
+    ensures grows { result ≡ Ok false → length bytes.old < length bytes.new }
+    ensures within { OnOk result (length bytes.new ≤ most) }
+    ensures named { IsTrue (F.seen files.old).told → IsErrOf result OpenFault.Failed
+        → (F.seen files.new).last_fault ≡ Some (F.chosen_name files.old) }
+    ensures cause { HasOpenCause (F.seen files.old).faults (F.seen files.new).faults result }
+    ensures assured { IsTrue (F.seen files.old).is_assured → IsTrue (F.seen files.new).is_assured }
+    ensures never_fails { IsTrue (F.seen files.old).is_assured → IsErrOf result OpenFault.Failed → ⊥ }
 {
     let mut buf = [0u8; PIECE];
     let room = (most - bytes.len()).min(PIECE);

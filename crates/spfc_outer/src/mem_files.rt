@@ -24,7 +24,7 @@ pub struct MemFiles {
     ghost within: { at ≤ length (contents_at files index) },
 }
 
-// Where the first file of this name stands.
+/// Where the first file of this name stands.
 fn find_file(files: &[(Bytes, Bytes)], name: &[u8]) -> Option<usize>
     ensures listed { IfSome result (λ i. i < length files.now) }
     ensures found { IfSome result (λ i. look_up files.now name.now ≡ Some (contents_at files.now i)) }
@@ -39,7 +39,7 @@ fn find_file(files: &[(Bytes, Bytes)], name: &[u8]) -> Option<usize>
     None
 }
 
-// The i-th file's name.
+/// The i-th file's name.
 fn name_of(files: &[(Bytes, Bytes)], i: usize) -> &[u8]
     requires { i < length files.now }
     ensures { result.now ≡ name_at files.now i }
@@ -48,7 +48,7 @@ fn name_of(files: &[(Bytes, Bytes)], i: usize) -> &[u8]
     file.0.as_slice()
 }
 
-// The i-th file's contents.
+/// The i-th file's contents.
 fn contents_of(files: &[(Bytes, Bytes)], i: usize) -> &[u8]
     requires { i < length files.now }
     ensures { result.now ≡ contents_at files.now i }
@@ -57,7 +57,7 @@ fn contents_of(files: &[(Bytes, Bytes)], i: usize) -> &[u8]
     file.1.as_slice()
 }
 
-// Copies the first bytes to the start of `buf`, at most `most` of them, and says how many.
+/// Copies the first bytes to the start of `buf`, at most `most` of them, and says how many.
 fn move_bytes(bytes: &[u8], most: usize, buf: &mut [u8]) -> usize
     ensures count { result ≡ min (length buf.old) (min most (length bytes.now)) }
     ensures moved { take result buf.new ≡ take result bytes.now }
@@ -70,8 +70,8 @@ fn move_bytes(bytes: &[u8], most: usize, buf: &mut [u8]) -> usize
 impl MemFiles {
     ghost use Rattle.spfc_outer.specs.MemFiles.{IsNewFiles};
 
-    /// Files of which none is chosen. A read takes at most `most` bytes. The calls of both methods are numbered together
-    /// from 1, and those whose number is in `fails` fail.
+    /// Files of which none is chosen. A read takes at most `most` bytes. The calls of both methods are numbered
+    /// together from 1, and those whose number is in `fails` fail.
     pub fn new(files: FileList, most: usize, fails: Calls) -> MemFiles
         requires { 1 ≤ most }
         ensures { IsNewFiles result files most fails }
@@ -94,25 +94,16 @@ impl Files for MemFiles {
     ghost use Rattle.std.specs.Prelude.{◌≡◌, ◌<◌, ◌++◌, ◌↔◌, true, Some, None, length, take, min, IsTrue, IsErrOf, IfOk, OnOk, OnErr};
     ghost use Rattle.std.specs.Io.{ReadsAtMost};
     ghost use Rattle.spfc_outer.specs.Causes.{HasCause, HasOpenCause};
-    ghost use Rattle.spfc_outer.specs.Calls.{has_no_fails};
     ghost use Rattle.spfc_outer.specs.Held.{look_up, name_at};
-    ghost use Rattle.spfc_outer.specs.MemFiles.{mem_rest, CountsCall};
+    ghost use Rattle.spfc_outer.specs.MemFiles.{mem_rest, mem_files_seen, CountsCall};
 
-    ghost told = { λ _. true };
-
-    ghost held = { λ m. look_up m.files };
+    ghost seen = { mem_files_seen };
 
     ghost is_chosen = { λ m. m.chosen };
 
     ghost chosen_name = { λ m. name_at m.files m.index };
 
     ghost rest = { mem_rest };
-
-    ghost last_fault = { λ m. m.fault.name };
-
-    ghost faults = { λ m. m.faults };
-
-    ghost is_assured = { λ m. has_no_fails m.fails };
 
     fn open_file(&mut self, name: &[u8]) -> Result<Opened, OpenFault>
         ensures counts { CountsCall self.old self.new result }

@@ -22,8 +22,9 @@ pub struct MemSink {
 impl MemSink {
     ghost use Rattle.spfc_outer.specs.MemSink.{sink_bytes, IsNewSink};
 
-    /// A sink with room for `room` bytes, which takes at most `most` of them in a call. The writes are numbered from 1, and
-    /// those whose number is in `fails` fail, as does one of some bytes where no room is left. It takes all its memory here.
+    /// A sink with room for `room` bytes, which takes at most `most` of them in a call. The writes are numbered from 1,
+    /// and those whose number is in `fails` fail, as does one of some bytes where no room is left. It takes all its
+    /// memory here.
     pub fn new(alloc: Global, room: usize, most: usize, fails: Calls) -> Result<MemSink, AllocError>
         requires { 1 ≤ most }
         ensures { IfOk result (λ s. IsNewSink s room most fails) }
@@ -51,13 +52,9 @@ impl Sink for MemSink {
     ghost use Rattle.std.specs.Io.{WritesAtMost};
     ghost use Rattle.std.specs.Io.KnownBytes.{WriteAppends};
     ghost use Rattle.spfc_outer.specs.Causes.{HasCause};
-    ghost use Rattle.spfc_outer.specs.MemSink.{sink_bytes, sure_room, WritesAsMade};
+    ghost use Rattle.spfc_outer.specs.MemSink.{sink_bytes, sure_room, mem_sink_seen, WritesAsMade};
 
-    ghost bytes = { λ s. Some (sink_bytes s) };
-
-    ghost faults = { λ s. s.faults };
-
-    ghost assured = { sure_room };
+    ghost seen = { mem_sink_seen };
 
     fn write(&mut self, piece: &[u8]) -> Result<usize, Failed>
         ensures bound { WritesAtMost result piece.now }

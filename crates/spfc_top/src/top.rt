@@ -1,13 +1,11 @@
 //! The top call.
-ghost use Rattle.std.specs.Prelude.{◌≡◌, ◌≤◌, ◌⊎◌, List, ℕ, IsTrue};
-ghost use Rattle.std.specs.Io.KnownBytes.{Appends};
-ghost use Rattle.spfc_outer.specs.Causes.{Rose};
-ghost use Rattle.spfc_outer.specs.Moved.{AppendsPart};
-ghost use Rattle.spfc_top.specs.Due.{Due};
-ghost use Rattle.spfc_top.specs.Ends.{given, IsOutput, IsBestOutput, IsFinding, IsUsage, IsReadFault, IsDueLine, IsFindingStatus, WordsDue, HasRoom, EndsDue};
-ghost use Rattle.spfc_top.specs.Ended.{Ended};
+ghost use Rattle.std.specs.Prelude.{◌≡◌, ◌≤◌};
+ghost use Rattle.jobs.specs.Turn.{Ended, turn, step, IsFindingStatus, HasDone, HasBest, HasFound, HasUsage};
+ghost use Rattle.jobs.specs.Turn.{HasReadFault, HasWriteFault, HasNone, IsComplete, IsAssured};
+ghost use Rattle.spfc_top.specs.AnyJob.{jobs};
 
-use crate::answer::{Answer, answer_words};
+use crate::AnyJob;
+use jobs::{Answer, answer_words};
 use spfc_outer::{Failed, Files, Sink, write_whole};
 use std::alloc::{AllocError, Global};
 
@@ -31,55 +29,47 @@ pub fn run<F: Files, K: Sink, E: Sink>(
     ensures range { result ≤ 8 }
 
     // 0: the words give a job, and `out` gained its output.
-    ensures done { result ≡ 0 → (bytes : List ℕ) × IsOutput (given words.now (F.told files.old) (F.held files.old)) bytes
-        × Appends (K.bytes out.old) (K.bytes out.new) bytes × (err.new ≡ err.old) }
+    ensures done { result ≡ 0 → HasDone jobs (turn words.now
+        (step F.seen files.old files.new) (step K.seen out.old out.new) (step E.seen err.old err.new)) }
 
-    // That output is the best that the job can have: of `compile`, a shortest list with the verdicts of check_host, in records
-    // that fit, of which no cut that fits has fewer, and whose names are free. The bytes are read as these records, over which
-    // alone, and over the zones with them in place, check_host gives each address the same verdict, by at most 10 lookups and
-    // no void lookup.
-    ensures best { result ≡ 0 → (bytes : List ℕ) × IsOutput (given words.now (F.told files.old) (F.held files.old)) bytes
-        × IsBestOutput (given words.now (F.told files.old) (F.held files.old)) bytes
-        × Appends (K.bytes out.old) (K.bytes out.new) bytes }
+    // That output is the best that the job can have: of `compile`, a shortest list with the verdicts of check_host, in
+    // records that fit, of which no cut that fits has fewer, and whose names are free. The bytes are read as these
+    // records, over which alone, and over the zones with them in place, check_host gives each address the same verdict.
+    ensures best { result ≡ 0 → HasBest jobs (turn words.now
+        (step F.seen files.old files.new) (step K.seen out.old out.new) (step E.seen err.old err.new)) }
 
     // 1, 2, 3 and 8: the words give a job, it is refused so, and `err` gained the line.
-    ensures finding { IsFindingStatus result → (line : List ℕ) × IsFinding (given words.now (F.told files.old) (F.held files.old)) result line
-        × Appends (E.bytes err.old) (E.bytes err.new) line × (out.new ≡ out.old) }
+    ensures finding { IsFindingStatus result → HasFound jobs (turn words.now
+        (step F.seen files.old files.new) (step K.seen out.old out.new) (step E.seen err.old err.new)) result }
 
     // 4: the words give no job.
-    ensures usage { result ≡ 4 → (line : List ℕ) × IsUsage (given words.now (F.told files.old) (F.held files.old)) line
-        × Appends (E.bytes err.old) (E.bytes err.new) line × (out.new ≡ out.old) }
+    ensures usage { result ≡ 4 → HasUsage jobs (turn words.now
+        (step F.seen files.old files.new) (step K.seen out.old out.new) (step E.seen err.old err.new)) }
 
-    // 5: the files' count rose, and the line names the file of the last fault.
-    ensures read_fault { result ≡ 5 → (line : List ℕ) × IsReadFault (given words.now (F.told files.old) (F.held files.old))
-        (F.faults files.old) (F.faults files.new) (F.last_fault files.new) line
-        × Appends (E.bytes err.old) (E.bytes err.new) line × (out.new ≡ out.old) }
+    // 5: the files' count rose, nothing before the file of the last fault is refused, and the line names that file.
+    ensures read_fault { result ≡ 5 → HasReadFault jobs (turn words.now
+        (step F.seen files.old files.new) (step K.seen out.old out.new) (step E.seen err.old err.new)) }
 
-    // 6: the count of `out` or of `err` rose, that one gained a proper prefix of what was due, and the other is untouched.
-    ensures write_fault { result ≡ 6 →
-        ((bytes : List ℕ) × IsOutput (given words.now (F.told files.old) (F.held files.old)) bytes
-        × Rose (K.faults out.old) (K.faults out.new) × AppendsPart (K.bytes out.old) (K.bytes out.new) bytes × (err.new ≡ err.old))
-        ⊎ ((line : List ℕ) × IsDueLine (given words.now (F.told files.old) (F.held files.old))
-        (F.faults files.old) (F.faults files.new) (F.last_fault files.new) line
-        × Rose (E.faults err.old) (E.faults err.new) × AppendsPart (E.bytes err.old) (E.bytes err.new) line × (out.new ≡ out.old)) }
+    // 6: the count of `out` or of `err` rose, that one gained a proper prefix of what was due; the other is untouched.
+    ensures write_fault { result ≡ 6 → HasWriteFault jobs (turn words.now
+        (step F.seen files.old files.new) (step K.seen out.old out.new) (step E.seen err.old err.new)) }
 
     // 7: nothing was written.
-    ensures memory { result ≡ 7 → (out.new ≡ out.old) × (err.new ≡ err.old) }
+    ensures memory { result ≡ 7 → HasNone (turn words.now
+        (step F.seen files.old files.new) (step K.seen out.old out.new) (step E.seen err.old err.new)) }
 
     // Where no count rose, the status is that of what is due, or memory ran out.
-    ensures complete { IsTrue (F.told files.old) → ¬ Rose (F.faults files.old) (F.faults files.new)
-        → ¬ Rose (K.faults out.old) (K.faults out.new) → ¬ Rose (E.faults err.old) (E.faults err.new)
-        → EndsDue (given words.now (F.told files.old) (F.held files.old)) result }
+    ensures complete { IsComplete jobs (turn words.now
+        (step F.seen files.old files.new) (step K.seen out.old out.new) (step E.seen err.old err.new)) result }
 
     // So too where no call of the files fails, and the sinks have room for all that is due.
-    ensures assured { IsTrue (F.told files.old) → IsTrue (F.is_assured files.old)
-        → ((due : Due) → WordsDue (given words.now (F.told files.old) (F.held files.old)) due → HasRoom (K.assured out.old) (E.assured err.old) due)
-        → EndsDue (given words.now (F.told files.old) (F.held files.old)) result }
+    ensures assured { IsAssured jobs (turn words.now
+        (step F.seen files.old files.new) (step K.seen out.old out.new) (step E.seen err.old err.new)) result }
 {
     end(alloc, words, files, out, err)
 }
 
-// All that the top call promises, as one fact by cases.
+/// All that the top call promises, as one fact by cases: what is due is computed first, and then written.
 fn end<F: Files, K: Sink, E: Sink>(
     alloc: Global,
     words: &[String],
@@ -87,26 +77,16 @@ fn end<F: Files, K: Sink, E: Sink>(
     out: &mut K,
     err: &mut E,
 ) -> u8
-    ensures { Ended (given words.now (F.told files.old) (F.held files.old))
-        (F.faults files.old) (F.faults files.new) (F.last_fault files.new) (IsTrue (F.is_assured files.old))
-        (K.bytes out.old) (K.bytes out.new) (K.faults out.old) (K.faults out.new) (K.assured out.old) (out.new ≡ out.old)
-        (E.bytes err.old) (E.bytes err.new) (E.faults err.old) (E.faults err.new) (E.assured err.old) (err.new ≡ err.old) result }
+    ensures { Ended jobs (turn words.now
+        (step F.seen files.old files.new) (step K.seen out.old out.new) (step E.seen err.old err.new)) result }
 {
-    match answer_words(alloc, words, files) {
-        Ok(Answer::Output(bytes)) => match write_whole(out, bytes.as_slice()) {
+    match answer_words::<AnyJob, F>(alloc, words, files) {
+        Ok(Answer::Writes(output)) => match write_whole(out, output.bytes.as_slice()) {
             Ok(()) => 0,
             Err(Failed) => 6,
         },
-        Ok(Answer::Usage(line)) => match write_whole(err, line.as_slice()) {
-            Ok(()) => 4,
-            Err(Failed) => 6,
-        },
-        Ok(Answer::Refusal { status, line }) => match write_whole(err, line.as_slice()) {
+        Ok(Answer::Says { status, line }) => match write_whole(err, line.as_slice()) {
             Ok(()) => status,
-            Err(Failed) => 6,
-        },
-        Ok(Answer::ReadFault(line)) => match write_whole(err, line.as_slice()) {
-            Ok(()) => 5,
             Err(Failed) => 6,
         },
         Err(AllocError) => 7,

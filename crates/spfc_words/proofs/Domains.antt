@@ -1,5 +1,5 @@
 -- A domain, taken in lower case, is a legal name.
-use Rattle.std.proofs.Common.{◌≡◌, ℕ, ◌≤◌, true, IsTrue, IsOk, List, [], ◌∷◌, length, map, None, refl, ap, ◌∙◌, arith}
+use Rattle.std.proofs.Common.{◌≡◌, ℕ, ◌≤◌, true, IsTrue, IsOk, Ok, List, [], ◌∷◌, length, map, None, refl, sym, ap, ◌∙◌, arith}
 use Rattle.std.specs.List.{list_all, slice_split}
 use Rattle.std.specs.Str.{str_to_ascii_lowercase}
 use Rattle.std.proofs.lemmas.Bool.{and_parts, leb-true}
@@ -7,7 +7,10 @@ use Rattle.std.proofs.lemmas.List.{length-map}
 use Rattle.dns_name.specs.Name.{IsLabel, lowercase_label, earlier_fault, first_fault, name_of_text, is_dot}
 use Rattle.dns_name.proofs.Names.{no_fault_from_label}
 use Rattle.dns_name.proofs.Texts.{legal_text, split_lower}
+use Rattle.std.specs.Result.{result_unwrap_or}
 use Rattle.spf_macros.specs.Words.{is_domain, is_domain_label}
+use Rattle.spfc_words.specs.declared.domain.Domain.{Domain}
+use Rattle.spfc_words.specs.Domains.{IsDomain}
 
 -- ---- labels
 legal_label : (label : List ℕ) → is_domain_label label ≡ true → IsLabel (lowercase_label label)
@@ -37,3 +40,11 @@ pub domain_is_name : (text : List ℕ) → IsTrue (is_domain text) → IsOk (nam
 domain_is_name text h =
     let short : length text ≤ 253 = leb-true (length text) 253 (and_parts _ _ h).1 in
     legal_text (str_to_ascii_lowercase text) (domain_is_legal text h) (lower_short text short)
+
+-- a word is one domain at most
+pub one_domain : (word : List ℕ) (a b : Domain) → IsDomain word a → IsDomain word b → a ≡ b
+one_domain word a b x y =
+    let text : a.text ≡ b.text = x.lower ∙ sym y.lower in
+    let same : Ok a.name ≡ Ok b.name = sym x.named ∙ (ap (λ t. name_of_text t) text ∙ y.named) in
+    let name : a.name ≡ b.name = ap (λ r. result_unwrap_or r []) same in
+    λ i. record { text = text i; name = name i }

@@ -1,8 +1,7 @@
-pub mod ChainWords
-pub mod Checks
-pub mod Compiles
-pub mod Families
-pub mod OneJob
-pub mod Settings
-pub mod Zones
+pub mod Addresses
 pub mod Domains
+pub mod Inputs
+pub mod ReadingLimits
+pub mod LowerTexts
+pub mod Settings
+pub mod ZoneWords

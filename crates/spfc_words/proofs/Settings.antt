@@ -1,13 +1,20 @@
 -- Options in a row, and their numbers.
-use Rattle.std.proofs.Common.{◌++◌, option_map, MatchOption, ◌≡◌, ℕ, ◌-◌, Bool, true, false, codes, String, string_bytes, bytes_eq, length, take, drop, get_or, ap₂, ◌<◌, ◌≤◌, ◌^◌, List, [], ◌∷◌, Option, Some, None, Result, refl, sym, ap, ◌∙◌, arith, lit≤}
+use Rattle.std.proofs.Common.{◌++◌, option_map, map, MatchOption, ◌≡◌, ℕ, ◌-◌, Bool, true, false, String, string_bytes, length, take, drop, get_or, ap₂, ◌<◌, ◌≤◌, ◌^◌, List, [], ◌∷◌, Some, None, Result, refl, sym, ap, ◌∙◌, arith, ◌||◌, subst}
+use Rattle.std.specs.declared.option.Option.{Option}
+use Rattle.std.specs.List.{list_any}
 use Rattle.std.specs.Result.{result_ok}
 use Rattle.std.specs.Str.Parse.{ParsesUnsigned}
 use Rattle.std.proofs.lemmas.Fmt.{parse-decimal, decimal_injective}
-use Rattle.spf_model.specs.declared.outcome.Limits.{Limits}
 use Rattle.std.proofs.lemmas.List.{take_rest}
 use Rattle.std.specs.declared.alloc.Global.{Global}
-use Rattle.spfc_words.specs.Options.{IsNumber, IsOption, IsLabelText, Setting, AreLimits, AreChainOptions, settings_in, words_behind, values_of}
+use Rattle.spfc_words.specs.Rows.{OptionRow, NumberOption, TextOption, FlagOption, is_flag, is_valued}
+use Rattle.spfc_words.specs.Options.{IsNumber, IsText, IsFlag, IsOption, settings_in, values_of, NumberIs, TextIs, FlagIs, Splits, HasNone}
 use Rattle.spfc_words.specs.Words.{texts}
+
+-- ---- tables
+pub any_mapped : {A B : Type 0} (f : A → B) (p : B → Bool) (xs : List A) → list_any (λ x. p (f x)) xs ≡ list_any p (map f xs)
+any_mapped f p [] = refl
+any_mapped f p (x ∷ xs) = ap (λ b. p (f x) || b) (any_mapped f p xs)
 
 -- ---- one value
 number_small : (low high n : ℕ) (text : List ℕ) → high < 2 ^ 32 → IsNumber low high text n → n < 2 ^ 32
@@ -40,58 +47,108 @@ several Spells by_default [] long a is = omega (arith, long)
 several Spells by_default (value ∷ []) long a is = omega (arith, long)
 several Spells by_default (value ∷ again ∷ values) long a is = is
 
-one_option : {A : Type 0} (Spells : List ℕ → A → Type 0) (one : (text : List ℕ) (a b : A) → Spells text a → Spells text b → a ≡ b) (by_default : A) (values : List (List ℕ)) (a b : A)
+pub one_option : {A : Type 0} (Spells : List ℕ → A → Type 0) (one : (text : List ℕ) (a b : A) → Spells text a → Spells text b → a ≡ b) (by_default : A) (values : List (List ℕ)) (a b : A)
     → IsOption Spells by_default values a → IsOption Spells by_default values b → a ≡ b
 one_option Spells one by_default [] a b x y = x ∙ sym y
 one_option Spells one by_default (value ∷ []) a b x y = one value a b x y
 one_option Spells one by_default (value ∷ again ∷ values) a b x y = absurd x
 
-one_value : (low high by_default : ℕ) (values : List (List ℕ)) (m n : ℕ) → high < 2 ^ 32 → IsOption (IsNumber low high) by_default values m → IsOption (IsNumber low high) by_default values n → m ≡ n
+pub one_value : (low high by_default : ℕ) (values : List (List ℕ)) (m n : ℕ) → high < 2 ^ 32 → IsOption (IsNumber low high) by_default values m → IsOption (IsNumber low high) by_default values n → m ≡ n
 one_value low high by_default values m n small a b = one_option (IsNumber low high) (λ text m n. one_number low high m n text small) by_default values m n a b
 
-one_label : (text a b : List ℕ) → IsLabelText text a → IsLabelText text b → a ≡ b
-one_label text a b x y = x.lower ∙ sym y.lower
+-- a flag that is written twice
+pub two_flags : (values : List (List ℕ)) → 2 ≤ length values → (b : Bool) → ¬ IsOption IsFlag false values b
+two_flags values long b = several IsFlag false values long b
 
-pub one_limits : (settings : List Setting) (a b : Limits) → AreLimits settings a → AreLimits settings b → a ≡ b
-one_limits settings a b x y =
-    let l : a.lookups ≡ b.lookups = one_value 10 20 10 _ a.lookups b.lookups (lit≤ tt) x.lookups y.lookups in
-    let v : a.voids ≡ b.voids = one_value 2 20 2 _ a.voids b.voids (lit≤ tt) x.voids y.voids in
-    let e : a.exchanges ≡ b.exchanges = one_value 10 100 10 _ a.exchanges b.exchanges (lit≤ tt) x.exchanges y.exchanges in
-    λ i. record { lookups = l i; voids = v i; exchanges = e i }
+pub one_flag : (values : List (List ℕ)) (a b : Bool) → IsOption IsFlag false values a → IsOption IsFlag false values b → a ≡ b
+one_flag values a b x y = one_option IsFlag (λ text c d e f. e ∙ sym f) false values a b x y
 
-pub one_chain : (settings : List Setting) (s t u v : ℕ) (l m : List ℕ) → AreChainOptions settings s u l → AreChainOptions settings t v m → (s ≡ t) × (u ≡ v) × (l ≡ m)
-one_chain settings s t u v l m x y = (
-  one_value 64 4096 450 _ s t (lit≤ tt) x.sized y.sized,
-  one_value 0 2147483647 3600 _ u v (lit≤ tt) x.lasting y.lasting,
-  one_option IsLabelText one_label (codes "_spf") _ l m x.labelled y.labelled,
-)
+-- ---- what the words in front say is one thing
+pub one_number_is : (table : List OptionRow) (words : List (List ℕ)) (name : List ℕ) (low high by_default m n : ℕ) → high < 2 ^ 32
+    → NumberIs table words (NumberOption name low high by_default) m → NumberIs table words (NumberOption name low high by_default) n → m ≡ n
+one_number_is table words name low high by_default m n small x y = one_value low high by_default (values_of name (settings_in table words)) m n small x y
 
--- ---- words in a row
-pub short_behind : (is_option : List ℕ → Bool) (words : List (String Global)) → length words < 2 → words_behind is_option (texts words) ≡ texts words
-short_behind is_option [] short = refl
-short_behind is_option (word ∷ []) short = refl
-short_behind is_option (word ∷ next ∷ words) short = absurd (omega (arith, short))
+pub one_flag_is : (table : List OptionRow) (words : List (List ℕ)) (name : List ℕ) (a b : Bool)
+    → FlagIs table words (FlagOption name) a → FlagIs table words (FlagOption name) b → a ≡ b
+one_flag_is table words name a b x y = one_flag (values_of name (settings_in table words)) a b x y
 
-pub short_settings : (is_option : List ℕ → Bool) (words : List (String Global)) → length words < 2 → settings_in is_option (texts words) ≡ []
-short_settings is_option [] short = refl
-short_settings is_option (word ∷ []) short = refl
-short_settings is_option (word ∷ next ∷ words) short = absurd (omega (arith, short))
+pub one_text_is : (table : List OptionRow) (words : List (List ℕ)) (name by_default a b : List ℕ)
+    → TextIs table words (TextOption name by_default) a → TextIs table words (TextOption name by_default) b → a ≡ b
+one_text_is table words name by_default a b x y =
+    one_option IsText (λ value c d e f. e ∙ sym f) by_default (values_of name (settings_in table words)) a b x y
 
-pub other_settings : (is_option : List ℕ → Bool) (words : List (String Global)) (name : String Global) → 2 ≤ length words → name ≡ get_or words 0 name → is_option (string_bytes name) ≡ false → settings_in is_option (texts words) ≡ []
-other_settings is_option [] name long at other = absurd (omega (arith, long))
-other_settings is_option (word ∷ []) name long at other = absurd (omega (arith, long))
-other_settings is_option (word ∷ next ∷ words) name long at other =
-    let is : is_option (string_bytes word) ≡ false = ap (λ (w : String Global). is_option (string_bytes w)) (sym at) ∙ other in
-    rw is refl
+-- the bounds of a number
+pub number_most : (table : List OptionRow) (words : List (List ℕ)) (name : List ℕ) (low high by_default n : ℕ) → by_default ≤ high
+    → NumberIs table words (NumberOption name low high by_default) n → n ≤ high
+number_most table words name low high by_default n fits is = most (values_of name (settings_in table words)) is
+  where
+    most : (values : List (List ℕ)) → IsOption (IsNumber low high) by_default values n → n ≤ high
+    most [] is = omega (arith, fits, is)
+    most (value ∷ []) is = is.most
+    most (value ∷ again ∷ values) is = absurd is
 
--- the values of an option that is written in front
-pub values_here : (is_option : List ℕ → Bool) (option : List ℕ) (words : List (String Global)) (name value : String Global) → 2 ≤ length words → name ≡ get_or words 0 name → value ≡ get_or words 1 value
-    → is_option (string_bytes name) ≡ true → bytes_eq (string_bytes name) option ≡ true
-    → values_of option (settings_in is_option (texts words)) ≡ string_bytes value ∷ values_of option (settings_in is_option (texts (take (length words - 2) (drop 2 words))))
-values_here is_option option [] name value long at second is same = absurd (omega (arith, long))
-values_here is_option option (word ∷ []) name value long at second is same = absurd (omega (arith, long))
-values_here is_option option (word ∷ next ∷ words) name value long at second is same =
-    let is_one : is_option (string_bytes word) ≡ true = ap (λ (w : String Global). is_option (string_bytes w)) (sym at) ∙ is in
-    let same_one : bytes_eq (string_bytes word) option ≡ true = ap (λ (w : String Global). bytes_eq (string_bytes w) option) (sym at) ∙ same in
-    let rest : take (length (word ∷ next ∷ words) - 2) words ≡ words = take_rest (word ∷ next ∷ words) 2 in
-    rw (is_one, same_one) (ap₂ (λ (t : List ℕ) (ws : List (String Global)). t ∷ values_of option (settings_in is_option (texts ws))) (ap (λ (w : String Global). string_bytes w) (sym second)) (sym rest))
+-- ---- the first of the words
+abbrev Words : Type 0
+Words = List (String Global)
+
+abbrev behind_first : Words → Words
+behind_first words = take (length words - 1) (drop 1 words)
+
+flag_at : (table : List OptionRow) (word : String Global) (words : Words) → is_flag table (string_bytes word) ≡ true → Splits table (word ∷ words) (string_bytes word) [] words
+flag_at table word [] is = record { first = rw is refl; rest = rw is refl; fewer = omega arith }
+flag_at table word (next ∷ words) is = record { first = rw is refl; rest = rw is refl; fewer = omega arith }
+
+valued_at : (table : List OptionRow) (word value : String Global) (words : Words) → is_flag table (string_bytes word) ≡ false → is_valued table (string_bytes word) ≡ true
+    → Splits table (word ∷ value ∷ words) (string_bytes word) (string_bytes value) words
+valued_at table word value words other is = record { first = rw (other, is) refl; rest = rw (other, is) refl; fewer = omega arith }
+
+pub flag_here : (table : List OptionRow) (words : Words) (name : String Global) (text : List ℕ) → 1 ≤ length words → name ≡ get_or words 0 name → text ≡ string_bytes name → is_flag table text ≡ true
+    → Splits table words text [] (behind_first words)
+flag_here table [] name text long at same is = absurd (omega (arith, long))
+flag_here table (word ∷ words) name text long at same is =
+    let t : text ≡ string_bytes word = same ∙ ap (λ (w : String Global). string_bytes w) at in
+    subst (λ b. Splits table (word ∷ words) text [] b) (sym (take_rest (word ∷ words) 1))
+    (subst (λ s. Splits table (word ∷ words) s [] words) (sym t) (flag_at table word words (ap (is_flag table) (sym t) ∙ is)))
+
+pub valued_here : (table : List OptionRow) (words : Words) (name value : String Global) (text written : List ℕ) → 1 ≤ length words → name ≡ get_or words 0 name → text ≡ string_bytes name → is_flag table text ≡ false
+    → 1 ≤ length (behind_first words) → value ≡ get_or (behind_first words) 0 value → written ≡ string_bytes value → is_valued table text ≡ true
+    → Splits table words text written (behind_first (behind_first words))
+valued_here table [] name value text written long at same other more at' same' is = absurd (omega (arith, long))
+valued_here table (word ∷ []) name value text written long at same other more at' same' is = absurd (omega (arith, more))
+valued_here table (word ∷ next ∷ words) name value text written long at same other more at' same' is =
+    let behind : behind_first (word ∷ next ∷ words) ≡ next ∷ words = take_rest (word ∷ next ∷ words) 1 in
+    let t : text ≡ string_bytes word = same ∙ ap (λ (w : String Global). string_bytes w) at in
+    let v : written ≡ string_bytes next = same' ∙ ap (λ (w : String Global). string_bytes w) (at' ∙ ap (λ (ws : Words). get_or ws 0 value) behind) in
+    let rest : behind_first (behind_first (word ∷ next ∷ words)) ≡ words = ap behind_first behind ∙ take_rest (next ∷ words) 1 in
+    subst (λ b. Splits table (word ∷ next ∷ words) text written b) (sym rest)
+    (subst (λ s. Splits table (word ∷ next ∷ words) text s words) (sym v)
+    (subst (λ s. Splits table (word ∷ next ∷ words) s (string_bytes next) words) (sym t)
+    (valued_at table word next words (ap (is_flag table) (sym t) ∙ other) (ap (is_valued table) (sym t) ∙ is))))
+
+pub lone_here : (table : List OptionRow) (words : Words) (name : String Global) (text : List ℕ) → 1 ≤ length words → name ≡ get_or words 0 name → text ≡ string_bytes name → is_flag table text ≡ false
+    → length (behind_first words) < 1 → HasNone table words
+lone_here table [] name text long at same other few = absurd (omega (arith, long))
+lone_here table (word ∷ []) name text long at same other few =
+    let f : is_flag table (string_bytes word) ≡ false = ap (is_flag table) (sym (same ∙ ap (λ (w : String Global). string_bytes w) at)) ∙ other in
+    record { none = rw f refl; all = rw f refl }
+lone_here table (word ∷ next ∷ words) name text long at same other few = absurd (omega (arith, few, ap (λ (ws : Words). length ws) (take_rest (word ∷ next ∷ words) 1)))
+
+pub other_here : (table : List OptionRow) (words : Words) (name : String Global) (text : List ℕ) → 1 ≤ length words → name ≡ get_or words 0 name → text ≡ string_bytes name → is_flag table text ≡ false
+    → is_valued table text ≡ false → 1 ≤ length (behind_first words) → HasNone table words
+other_here table [] name text long at same other none more = absurd (omega (arith, long))
+other_here table (word ∷ []) name text long at same other none more = absurd (omega (arith, more))
+other_here table (word ∷ next ∷ words) name text long at same other none more =
+    let t : text ≡ string_bytes word = same ∙ ap (λ (w : String Global). string_bytes w) at in
+    let f : is_flag table (string_bytes word) ≡ false = ap (is_flag table) (sym t) ∙ other in
+    let v : is_valued table (string_bytes word) ≡ false = ap (is_valued table) (sym t) ∙ none in
+    record { none = rw (f, v) refl; all = rw (f, v) refl }
+
+-- the first word and the others
+pub first_of : (words : Words) (name : String Global) (text : List ℕ) → 1 ≤ length words → name ≡ get_or words 0 name → text ≡ string_bytes name → texts words ≡ text ∷ texts (behind_first words)
+first_of [] name text long at same = absurd (omega (arith, long))
+first_of (word ∷ words) name text long at same =
+    ap₂ (λ (t : List ℕ) (ws : Words). t ∷ texts ws) (sym (same ∙ ap (λ (w : String Global). string_bytes w) at)) (sym (take_rest (word ∷ words) 1))
+
+pub none_of : (words : Words) → length words < 1 → texts words ≡ []
+none_of [] few = refl
+none_of (word ∷ words) few = absurd (omega (arith, few))

@@ -1,2 +1,7 @@
+pub mod Domains
+pub mod Inputs
+pub mod Limits
 pub mod Options
+pub mod Rows
 pub mod Words
+pub mod ZoneWords

@@ -1,16 +1,17 @@
-//! The words of the command line, and the jobs that they spell.
+//! The words of the command line: options by a table, domains, and the files that a job reads.
 #![tactic(auto)]
 
-mod job;
+mod domain;
+mod input;
 mod laws;
+mod limits;
 mod options;
-mod read;
+mod row;
 mod zone_word;
 
-pub use job::Job;
-pub use laws::{domains_are_names, one_job};
-pub use read::read_words;
-pub use zone_word::{ZoneWord, ZoneWords};
-
-#[cfg(test)]
-mod tests;
+pub use domain::{Domain, lowercase, read_domain};
+pub use input::{Group, Input, Inputs, Place, push_zone_words};
+pub use laws::domains_are_names;
+pub use limits::{EXCHANGES, LOOKUPS, READING, VOIDS, read_limits};
+pub use options::{behind_options, read_flag, read_number, read_text, split_first};
+pub use row::{FlagRow, NumberRow, Row, TextRow};

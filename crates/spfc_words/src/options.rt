@@ -1,158 +1,118 @@
-//! Options, which stand in front of the zone words.
-ghost use Rattle.std.specs.Prelude.{◌≡◌, ℕ, List, [], ◌∷◌, ◌≤◌, codes, length, MatchOption, IfOk};
-ghost use Rattle.std.specs.Str.{str_to_ascii_lowercase};
-ghost use Rattle.spf_model.specs.declared.outcome.Limits.{Limits};
+//! Options, which stand in front of the other words, as a table has them.
+ghost use Rattle.std.specs.Prelude.{◌≡◌, ℕ, ◌<◌, ◌≤◌, List, [], ◌∷◌, Bool, map, length, MatchOption};
+ghost use Rattle.spfc_words.specs.Rows.{plain};
 ghost use Rattle.spfc_words.specs.Options as options;
-ghost use Rattle.spfc_words.specs.Options.{IsNumber, IsOption, IsLabelText, AreLimits, AreChainOptions, is_option_of, settings_in, words_behind, values_of};
+ghost use Rattle.spfc_words.specs.Options.{IsNumber, NumberIs, TextIs, FlagIs, HasNone, Splits, settings_in, values_of};
 ghost use Rattle.spfc_words.specs.Words.{texts};
 
-use addr_bits::Bytes;
+use crate::row::{FlagRow, NumberRow, Row, TextRow, is_flag, is_valued};
 use itoa::Buffer;
-use spf_macros::is_label;
-use spf_model::Limits;
-use std::alloc::{AllocError, Global};
 
-/// Options that may stand together in front of the zone words.
-#[derive(Clone, Copy)]
-pub(crate) enum Group {
-    /// The limits of reading.
-    Reading,
-    /// The limits of reading, and how the records of a chain are written.
-    Compile,
-}
-
-/// How the records of a chain are written.
-#[derive(Drop)]
-pub(crate) struct ChainOptions {
-    /// What a record takes is less than this, in octets.
-    pub size: u32,
-    /// The TTL of the records, in seconds.
-    pub ttl: u32,
-    /// What the names of the records behind the first begin with, in lower case.
-    pub label: Bytes,
-}
-
-/// What the names of the records behind the first begin with, where no option says it.
-const LABEL: &[u8] = b"_spf";
-
-/// The reading limits that the options in front of the words give; `None` where an option is written twice, or with
-/// another value than a number of its range.
-pub(crate) fn read_limits(group: Group, words: &[String]) -> Option<Limits>
-    ensures { MatchOption result ((any : Limits) → ¬ AreLimits (settings_in (is_option_of group) (texts words.now)) any)
-        (AreLimits (settings_in (is_option_of group) (texts words.now))) }
+/// The first word, and the words behind it; `None` where there is none.
+pub fn split_first(words: &[String]) -> Option<(&str, &[String])>
+    ensures { MatchOption result (texts words.now ≡ [])
+        (λ found. texts words.now ≡ found.0.now ∷ texts found.1.now) }
 {
-    let lookups = read_option(group, words, "--lookups", 10, 20, 10)?;
-    let voids = read_option(group, words, "--voids", 2, 20, 2)?;
-    let exchanges = read_option(group, words, "--exchanges", 10, 100, 10)?;
-    Some(Limits {
-        lookups,
-        voids,
-        exchanges,
-    })
-}
-
-/// How the records are written, by the options in front of the words; `None` where an option is written twice, or with
-/// another value than it may have.
-pub(crate) fn read_chain(
-    alloc: Global,
-    words: &[String],
-) -> Result<Option<ChainOptions>, AllocError>
-    ensures { let settings = settings_in options.is_compile_option (texts words.now) in
-        IfOk result (λ chain. MatchOption chain ((size ttl : ℕ) (label : List ℕ) → ¬ AreChainOptions settings size ttl label)
-        (λ chain. AreChainOptions settings chain.size chain.ttl chain.label)) }
-{
-    let group = Group::Compile;
-    let Some(size) = read_option(group, words, "--size", 64, 4096, 450) else {
-        return Ok(None);
+    let [first, behind @ ..] = words else {
+        return None;
     };
-    let Some(ttl) = read_option(group, words, "--ttl", 0, 2_147_483_647, 3600) else {
-        return Ok(None);
-    };
-    let Some(text) = read_label(words) else {
-        return Ok(None);
-    };
-    let label = lowercase(alloc, text)?;
-    Ok(Some(ChainOptions { size, ttl, label }))
+    Some((first.as_str(), behind))
 }
 
 /// The words behind the options.
-pub(crate) fn behind_options(group: Group, words: &[String]) -> &[String]
-    ensures { texts result.now ≡ words_behind (is_option_of group) (texts words.now) }
+pub fn behind_options<'a>(rows: &[Row], words: &'a [String]) -> &'a [String]
+    ensures { texts result.now ≡ options.behind_options (map plain rows.now) (texts words.now) }
 {
     let mut rest = words;
-    while let [name, _, behind @ ..] = rest {
-        if !is_option(group, name.as_str()) {
-            break;
-        }
+    while let Some((_, behind)) = split_setting(rows, rest) {
         rest = behind;
     }
     rest
 }
 
-/// The text in lower case.
-pub(crate) fn lowercase(alloc: Global, text: &[u8]) -> Result<Bytes, AllocError>
-    ensures { IfOk result (λ bytes. bytes ≡ str_to_ascii_lowercase text.now) }
+/// The number of an option of the table, among the options in front; `None` where it is written twice, or with another
+/// value than a number of its range.
+pub fn read_number(rows: &[Row], words: &[String], row: &NumberRow) -> Option<u32>
+    ensures { let Is = NumberIs (map plain rows.now) (texts words.now) (plain (Row.Number row.now)) in
+        MatchOption result ((n : ℕ) → ¬ Is n) Is }
 {
-    let mut bytes = Bytes::new(alloc);
-    bytes.extend_from_slice(&text.to_ascii_lowercase(alloc)?)?;
-    Ok(bytes)
+    match value_of(rows, words, row.name) {
+        Some(Some(text)) => parse_number(text, row.low, row.high),
+        Some(None) => Some(row.by_default),
+        None => None,
+    }
 }
 
-// The value that is written for an option in front of the words, if one is; `None` where several are.
-fn value_of<'a>(group: Group, words: &'a [String], name: &str) -> Option<Option<&'a str>>
-    ensures { let values = values_of name.now (settings_in (is_option_of group) (texts words.now)) in
-        MatchOption result (2 ≤ length values) (λ found. MatchOption found (values ≡ []) (λ value. values ≡ value.now ∷ [])) }
+/// The text of an option of the table, among the options in front; `None` where it is written twice.
+pub fn read_text<'a>(rows: &[Row], words: &'a [String], row: &TextRow) -> Option<&'a str>
+    ensures { let Is = TextIs (map plain rows.now) (texts words.now) (plain (Row.Text row.now)) in
+        MatchOption result ((text : List ℕ) → ¬ Is text) (λ text. Is text.now) }
+{
+    match value_of(rows, words, row.name) {
+        Some(Some(text)) => Some(text),
+        Some(None) => Some(row.by_default),
+        None => None,
+    }
+}
+
+/// Whether a flag of the table is among the options in front; `None` where it is written twice.
+pub fn read_flag(rows: &[Row], words: &[String], row: &FlagRow) -> Option<bool>
+    ensures { let Is = FlagIs (map plain rows.now) (texts words.now) (plain (Row.Flag row.now)) in
+        MatchOption result ((b : Bool) → ¬ Is b) Is }
+{
+    match value_of(rows, words, row.name) {
+        Some(Some(_)) => Some(true),
+        Some(None) => Some(false),
+        None => None,
+    }
+}
+
+/// The first option in front, if one stands there, as its name and its value, and the words behind it.
+fn split_setting<'a>(
+    rows: &[Row],
+    words: &'a [String],
+) -> Option<((&'a str, &'a str), &'a [String])>
+    ensures { MatchOption result (HasNone (map plain rows.now) words.now)
+        (λ found. Splits (map plain rows.now) words.now found.0.0.now found.0.1.now found.1.now) }
+{
+    let [name, behind @ ..] = words else {
+        return None;
+    };
+    let name = name.as_str();
+    if is_flag(rows, name) {
+        return Some(((name, ""), behind));
+    }
+    let [value, behind @ ..] = behind else {
+        return None;
+    };
+    if is_valued(rows, name) {
+        return Some(((name, value.as_str()), behind));
+    }
+    None
+}
+
+/// The value that is written for an option in front of the words, if one is; `None` where several are.
+fn value_of<'a>(rows: &[Row], words: &'a [String], name: &str) -> Option<Option<&'a str>>
+    ensures { let values = values_of name.now (settings_in (map plain rows.now) (texts words.now)) in
+        MatchOption result (2 ≤ length values)
+        (λ found. MatchOption found (values ≡ []) (λ value. values ≡ value.now ∷ [])) }
 {
     let mut found = None;
     let mut rest = words;
-    while let [option, value, behind @ ..] = rest {
-        if !is_option(group, option.as_str()) {
-            break;
-        }
-        if option.as_str() == name {
+    while let Some(((option, value), behind)) = split_setting(rows, rest) {
+        if option == name {
             if found.is_some() {
                 return None;
             }
-            found = Some(value.as_str());
+            found = Some(value);
         }
         rest = behind;
     }
     Some(found)
 }
 
-// The number of an option, from `low` to `high`, among the options in front of the words.
-fn read_option(
-    group: Group,
-    words: &[String],
-    name: &str,
-    low: u32,
-    high: u32,
-    by_default: u32,
-) -> Option<u32>
-    ensures { let values = values_of name.now (settings_in (is_option_of group) (texts words.now)) in
-        MatchOption result ((n : ℕ) → ¬ IsOption (IsNumber low high) by_default values n) (IsOption (IsNumber low high) by_default values) }
-{
-    match value_of(group, words, name)? {
-        Some(text) => read_number(text, low, high),
-        None => Some(by_default),
-    }
-}
-
-// The label, as it is written, among the options in front of the words.
-fn read_label(words: &[String]) -> Option<&[u8]>
-    ensures { let values = values_of (codes "--label") (settings_in options.is_compile_option (texts words.now)) in
-        MatchOption result ((label : List ℕ) → ¬ IsOption IsLabelText (codes "_spf") values label)
-        (λ text. IsOption IsLabelText (codes "_spf") values (str_to_ascii_lowercase text.now)) }
-{
-    let Some(text) = value_of(Group::Compile, words, "--label")? else {
-        return Some(LABEL);
-    };
-    let text = text.as_bytes();
-    if is_label(text) { Some(text) } else { None }
-}
-
-// The number that decimal digits write, from `low` to `high`.
-fn read_number(text: &str, low: u32, high: u32) -> Option<u32>
+/// The number that decimal digits write, from `low` to `high`.
+fn parse_number(text: &str, low: u32, high: u32) -> Option<u32>
     ensures { MatchOption result ((n : ℕ) → ¬ IsNumber low high text.now n) (IsNumber low high text.now) }
 {
     let number: u32 = text.parse().ok()?;
@@ -161,25 +121,4 @@ fn read_number(text: &str, low: u32, high: u32) -> Option<u32>
         return None;
     }
     Some(number)
-}
-
-fn is_option(group: Group, word: &str) -> bool
-    ensures { result ≡ is_option_of group word.now }
-{
-    match group {
-        Group::Reading => is_reading_option(word),
-        Group::Compile => is_reading_option(word) || is_chain_option(word),
-    }
-}
-
-fn is_reading_option(word: &str) -> bool
-    ensures { result ≡ options.is_reading_option word.now }
-{
-    matches!(word, "--lookups" | "--voids" | "--exchanges")
-}
-
-fn is_chain_option(word: &str) -> bool
-    ensures { result ≡ options.is_chain_option word.now }
-{
-    matches!(word, "--size" | "--ttl" | "--label")
 }

@@ -1,11 +1,12 @@
-use Rattle.std.proofs.Common.{◌≡◌, length}
-use Rattle.spfc_words.specs.Options.{is_option_of, words_behind}
+use Rattle.std.proofs.Common.{◌≡◌, map, length}
+use Rattle.spfc_words.specs.Rows.{plain}
+use Rattle.spfc_words.specs.Options as options
 use Rattle.spfc_words.specs.Words.{texts}
 use Rattle.spfc_words.proofs.options.behind_options.Given as goal
 
 -- what is left decides
-abbrev pub invariant-loop-rest : goal.invariant-loop-rest
-invariant-loop-rest l = words_behind (is_option_of l.group) (texts l.fn.words) ≡ words_behind (is_option_of l.group) (texts l.rest)
+abbrev pub invariant-loop-behind : goal.invariant-loop-behind
+invariant-loop-behind l = options.behind_options (map plain l.rows) (texts l.fn.words) ≡ options.behind_options (map plain l.rows) (texts l.rest)
 
-abbrev pub decreases-loop-rest : goal.decreases-loop-rest
-decreases-loop-rest l = length l.rest
+abbrev pub decreases-loop-behind : goal.decreases-loop-behind
+decreases-loop-behind l = length l.rest

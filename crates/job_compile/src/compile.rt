@@ -1,0 +1,123 @@
+//! The job.
+ghost use Rattle.std.specs.Prelude.{◌∷◌, Ok, Err, IsOk, IfOk, IfErr};
+ghost use Rattle.dns_name.specs.Name.{name_of_text};
+ghost use Rattle.spf_model.specs.Result.{AreModest};
+ghost use Rattle.spfc_words.specs.Words.{texts};
+ghost use Rattle.loading.specs.Memory.{ErrorIs};
+ghost use Rattle.jobs.specs.Meaning.{Reads};
+ghost use Rattle.job_compile.specs.Words.{SpellsCompile};
+ghost use Rattle.job_compile.specs.Policy.{PolicyDue, due_of};
+
+use crate::publish;
+use crate::settings::{ChainSettings, LABEL, SIZE, TTL, read_settings};
+use crate::verdicts::kept_verdicts;
+use addr_bits::Bytes;
+use jobs::{Job, Output};
+use loading::{Loaded, OrMemory, Refusal};
+use spf_model::Limits;
+use spfc_words::{
+    EXCHANGES, Group, Input, Inputs, LOOKUPS, Row, VOIDS, behind_options, push_zone_words,
+    read_limits, split_first,
+};
+use std::alloc::{AllocError, Global};
+use zone_answers::{Questions, Zones};
+
+/// The options of the job: those of the reading limits, and of a chain of records.
+const OPTIONS: &[Row] = &[
+    Row::Number(LOOKUPS),
+    Row::Number(VOIDS),
+    Row::Number(EXCHANGES),
+    Row::Number(SIZE),
+    Row::Number(TTL),
+    Row::Text(LABEL),
+];
+
+/// The policy of a domain as the fewest terms in the fewest records.
+#[derive(Debug, Drop)]
+pub struct Compile {
+    /// The domain, and how its records are written.
+    pub settings: ChainSettings,
+    /// The limits under which the zones are read.
+    pub limits: Limits,
+    /// The zones.
+    pub inputs: Inputs,
+}
+
+impl Job for Compile {
+    ghost use Rattle.job_compile.specs.Words.{SpellsCompile};
+    ghost use Rattle.job_compile.specs.Meaning.{meaning_of_compile};
+    ghost use Rattle.job_compile.specs.Laws.{compile_ready, one_compile, compile_lawful};
+
+    ghost spells = { SpellsCompile };
+
+    ghost meaning = { meaning_of_compile };
+
+    ghost ready = { compile_ready };
+
+    ghost one_spelled = { one_compile };
+
+    ghost lawful = { compile_lawful };
+
+    fn read(alloc: Global, words: &[String]) -> Result<Option<Compile>, AllocError> {
+        match split_first(words) {
+            Some((domain, rest)) => read_behind(alloc, domain, rest),
+            None => Ok(None),
+        }
+    }
+
+    fn inputs(&self) -> &[Input] {
+        self.inputs.as_slice()
+    }
+
+    fn perform(&self, alloc: Global, loaded: &Loaded) -> Result<Output, OrMemory<Refusal>> {
+        match write_policy(alloc, &loaded.zones, &self.settings, self.limits) {
+            Ok(bytes) => Ok(Output {
+                bytes,
+                asked: Questions::new(alloc),
+            }),
+            Err(why) => Err(why),
+        }
+    }
+}
+
+/// The job of a domain and the words behind it: options of the reading limits and of a chain, and zone words.
+fn read_behind(alloc: Global, domain: &str, rest: &[String]) -> Result<Option<Compile>, AllocError>
+    ensures { Reads SpellsCompile (domain.now ∷ texts rest.now) result }
+{
+    let Some(settings) = read_settings(alloc, OPTIONS, domain, rest)? else {
+        return Ok(None);
+    };
+    let Some(limits) = read_limits(OPTIONS, rest) else {
+        return Ok(None);
+    };
+    let mut inputs = Inputs::new(alloc);
+    if !push_zone_words(
+        alloc,
+        &mut inputs,
+        Group::Zones,
+        behind_options(OPTIONS, rest),
+    )? {
+        return Ok(None);
+    }
+    Ok(Some(Compile {
+        settings,
+        limits,
+        inputs,
+    }))
+}
+
+/// The fragment for the domain over these zones, which are read under these limits.
+fn write_policy(
+    alloc: Global,
+    zones: &Zones,
+    settings: &ChainSettings,
+    limits: Limits,
+) -> Result<Bytes, OrMemory<Refusal>>
+    requires named { IsOk (name_of_text settings.now.domain.text) }
+    requires modest { AreModest limits }
+    ensures written { IfOk result (λ bytes. PolicyDue settings.now limits zones.now (due_of (Ok bytes))) }
+    ensures refused { IfErr result (ErrorIs (λ why. PolicyDue settings.now limits zones.now (due_of (Err why)))) }
+{
+    let tries = kept_verdicts(alloc, zones, settings.domain.text.as_slice(), limits)?;
+    publish(alloc, zones, settings, &tries)
+}

@@ -1,0 +1,4 @@
+pub mod InputsLemmas
+pub mod OneLoading
+pub mod ReadingLemmas
+pub mod StopLemmas

@@ -1,5 +1,0 @@
-use Rattle.master_reader.proofs.Feeding.{decides_faults}
-use Rattle.spfc_top.proofs.reading.Progress.finish.Goals as goal
-
-pub returns-in-Faulty-clause-bad : goal.returns-in-Faulty-clause-bad
-returns-in-Faulty-clause-bad c = λ origin bytes comes. decides_faults origin bytes _ _ (rw c.in-Faulty.is at comes)

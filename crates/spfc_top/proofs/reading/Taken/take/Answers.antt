@@ -1,6 +1,0 @@
-use Rattle.spfc_top.proofs.ReadingLemmas.{bound, counted}
-use Rattle.spfc_top.proofs.reading.Taken.take.Goals as goal
-
-pub returns-clause-taken : goal.returns-clause-taken
-returns-clause-taken c = λ origin bytes has.
-    (counted bytes _ _ has.0, c.in_ok-progress.ensures origin bytes has.1 (bound bytes _ _ has.0 c.requires))

@@ -1,0 +1,33 @@
+-- The list of jobs: one line for each in each definition.
+use Rattle.std.specs.Prelude.{ℕ, List, [], ◌∷◌, ◌≡◌, codes}
+use Rattle.jobs.specs.Meaning.{Meaning, Program, program}
+use Rattle.job_check.specs.Meaning.{meaning_of_check}
+use Rattle.job_check.specs.Words.{SpellsCheck}
+use Rattle.job_compile.specs.Meaning.{meaning_of_compile}
+use Rattle.job_compile.specs.Words.{SpellsCompile}
+use Rattle.spfc_top.specs.declared.any_job.AnyJob.{AnyJob}
+use Rattle.spfc_top.specs.declared.any_job.AnyJob.TheVariants.{Check, Compile}
+
+-- project's own choice: the command of a job
+abbrev pub command_of : AnyJob → List ℕ
+command_of (Check job) = codes "check"
+command_of (Compile job) = codes "compile"
+
+-- the words behind the command
+abbrev pub SpellsBehind : List (List ℕ) → AnyJob → Type 0
+SpellsBehind words (Check job) = SpellsCheck words job
+SpellsBehind words (Compile job) = SpellsCompile words job
+
+-- the words spell the job
+abbrev pub SpellsAny : List (List ℕ) → AnyJob → Type 0
+SpellsAny [] job = ⊥
+SpellsAny (command ∷ words) job = (command ≡ command_of job) × SpellsBehind words job
+
+-- what a job means
+abbrev pub meaning_of : AnyJob → Meaning
+meaning_of (Check job) = meaning_of_check job
+meaning_of (Compile job) = meaning_of_compile job
+
+-- all jobs
+abbrev pub jobs : Program
+jobs = program SpellsAny meaning_of

@@ -1,0 +1,37 @@
+-- The laws of the list of jobs.
+use Rattle.std.specs.Prelude.{ℕ, List, [], ◌∷◌, ◌≡◌}
+use Rattle.std.proofs.Common.{ap, sym, ◌∙◌}
+use Rattle.std.proofs.lemmas.Bool.{false≢true}
+use Rattle.std.proofs.lemmas.Slice.Eq.{bytes_eq-Decides}
+use Rattle.jobs.specs.Meaning.{IsLawful}
+use Rattle.job_check.specs.Laws.{check_ready, one_check, check_lawful}
+use Rattle.job_compile.specs.Laws.{compile_ready, one_compile, compile_lawful}
+use Rattle.spfc_top.specs.declared.any_job.AnyJob.{AnyJob}
+use Rattle.spfc_top.specs.declared.any_job.AnyJob.TheVariants.{Check, Compile}
+use Rattle.spfc_top.specs.AnyJob.{command_of, SpellsBehind, SpellsAny, meaning_of}
+
+ready_behind : (words : List (List ℕ)) (job : AnyJob) → SpellsBehind words job → (meaning_of job).IsReady
+ready_behind words (Check job) is = check_ready words job is
+ready_behind words (Compile job) is = compile_ready words job is
+
+-- the words of a job make it ready
+pub any_ready : (words : List (List ℕ)) (job : AnyJob) → SpellsAny words job → (meaning_of job).IsReady
+any_ready [] job is = absurd is
+any_ready (command ∷ words) job is = ready_behind words job is.1
+
+-- the last case is that of two commands
+one_behind : (words : List (List ℕ)) (a b : AnyJob) → command_of a ≡ command_of b → SpellsBehind words a
+    → SpellsBehind words b → a ≡ b
+one_behind words (Check a) (Check b) e x y = ap Check (one_check words a b x y)
+one_behind words (Compile a) (Compile b) e x y = ap Compile (one_compile words a b x y)
+one_behind words a b e x y = absurd (false≢true ((bytes_eq-Decides (command_of a) (command_of b)).1 e))
+
+-- words spell one job at most
+pub one_any : (words : List (List ℕ)) (a b : AnyJob) → SpellsAny words a → SpellsAny words b → a ≡ b
+one_any [] a b x y = absurd x
+one_any (command ∷ words) a b x y = one_behind words a b (sym x.0 ∙ y.0) x.1 y.1
+
+-- for what was read one thing is due at most, and an output that is due is the best
+pub any_lawful : (job : AnyJob) → IsLawful (meaning_of job)
+any_lawful (Check job) = check_lawful job
+any_lawful (Compile job) = compile_lawful job
