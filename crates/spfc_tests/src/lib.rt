@@ -10,6 +10,8 @@ mod outside;
 #[cfg(test)]
 mod questions;
 #[cfg(test)]
+mod rows;
+#[cfg(test)]
 mod terms;
 #[cfg(test)]
 mod texts;

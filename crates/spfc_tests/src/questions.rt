@@ -17,7 +17,8 @@ const RECEIVER: Limits = Limits {
 
 // A host that settles no whole family, a name that rests on the family, and one behind `all`.
 const ZONE: &[u8] =
-    b"@ TXT \"v=spf1 exists:%{v}.h2.example.com a:h1.example.com -all a:h3.example.com\"\nh1 A 192.0.2.1\nh1 AAAA ::1\n";
+    b"@ TXT \"v=spf1 exists:%{v}.h2.example.com a:h1.example.com -all a:h3.example.com\"\n\
+    h1 A 192.0.2.1\nh1 AAAA ::1\n";
 
 // The questions in order.
 const ASKED: [(&str, QKind); 5] = [

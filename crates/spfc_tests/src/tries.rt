@@ -83,3 +83,21 @@ fn two_tries_are_combined(rt: HostRuntime) -> Result<(), Fail> {
     assert!(rt; constant.leaves()?.len() == 1);
     Ok(())
 }
+
+#[test]
+fn a_trie_is_mapped(rt: HostRuntime) -> Result<(), Fail> {
+    let trie = marked4(rt.alloc(), 0xc000_0200, 24)?;
+    let other = trie.map(|value| Ok(*value == 0))?;
+    for (address, value) in [
+        (0xc000_0200, false),
+        (0xc000_02ff, false),
+        (0xc000_0300, true),
+        (0, true),
+    ] {
+        assert!(rt; *other.at(address) == value);
+    }
+    assert!(rt; other.leaves()?.len() == 25);
+    let constant = trie.map(|_| Ok(3u8))?;
+    assert!(rt; constant.leaves()?.len() == 1);
+    Ok(())
+}
