@@ -10,8 +10,6 @@ mod laws;
 mod lines;
 mod outcome;
 mod record;
-#[cfg(test)]
-mod tests;
 
 pub use check::{check_one, redirect_of};
 pub use ending::Ending;

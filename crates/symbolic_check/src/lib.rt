@@ -10,8 +10,6 @@ mod networks;
 mod scene;
 mod state;
 mod steps;
-#[cfg(test)]
-mod tests;
 mod walk;
 
 pub use both::{Both, evaluate};
