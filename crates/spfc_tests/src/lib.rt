@@ -4,13 +4,13 @@
 #[cfg(test)]
 mod files;
 #[cfg(test)]
-mod jobs;
-#[cfg(test)]
 mod outside;
 #[cfg(test)]
 mod questions;
 #[cfg(test)]
 mod rows;
+#[cfg(test)]
+mod runs;
 #[cfg(test)]
 mod terms;
 #[cfg(test)]

@@ -1,6 +1,6 @@
 //! Files and sinks that fail.
 
-use crate::jobs::bytes;
+use crate::runs::bytes;
 use addr_bits::Bytes;
 use spfc_outer::{
     Calls, Failed, FileList, Files, HostFiles, MemFiles, MemSink, OpenFault, Opened, Sink, load,
