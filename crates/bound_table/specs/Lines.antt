@@ -1,7 +1,8 @@
 -- The lines of a table, which are the project's own format.
 use Rattle.std.specs.Prelude.{ℕ, List, [], ◌∷◌, ◌++◌, codes, decimal, flat_map}
-use Rattle.addr_bits.specs.Ip4.{ip4_text}
-use Rattle.addr_bits.specs.Ip6.{ip6_text}
+use Rattle.addr_bits.specs.Address.{text_in}
+use Rattle.addr_bits.specs.declared.address.Family.{Family}
+use Rattle.addr_bits.specs.declared.address.Family.TheVariants.{V4, V6}
 use Rattle.fewest_terms.specs.declared.needs.Needs.{Needs}
 use Rattle.fewest_terms.specs.Row.{NeedRow}
 
@@ -14,9 +15,9 @@ abbrev pub row_line : (address : List ℕ) → (len : ℕ) → Needs → List �
 row_line address len needs = codes "; row " ++ address ++ 47 ∷ decimal len ++ needs_text needs ++ 10 ∷ []
 
 -- the line of each row, in their order
-abbrev pub row_lines : (address_text : ℕ → List ℕ) → List NeedRow → List ℕ
-row_lines address_text rows = flat_map (λ row. row_line (address_text row.prefix.start) row.prefix.len row.needs) rows
+abbrev pub row_lines : Family → List NeedRow → List ℕ
+row_lines f rows = flat_map (λ row. row_line (text_in f row.prefix.start) row.prefix.len row.needs) rows
 
 -- the rows of IPv4, those of IPv6, and the total
 abbrev pub table_text : (rows4 rows6 : List NeedRow) → (total : ℕ) → List ℕ
-table_text rows4 rows6 total = row_lines ip4_text rows4 ++ row_lines ip6_text rows6 ++ codes "; fewest " ++ decimal total ++ 10 ∷ []
+table_text rows4 rows6 total = row_lines V4 rows4 ++ row_lines V6 rows6 ++ codes "; fewest " ++ decimal total ++ 10 ∷ []

@@ -1,10 +1,8 @@
 //! Writing the lines of a table.
 ghost use Rattle.std.specs.Prelude.{◌≡◌, ◌++◌, ◌∷◌, decimal, IfOk, OnOk};
-ghost use Rattle.addr_bits.specs.Ip4.{ip4_text};
-ghost use Rattle.addr_bits.specs.Ip6.{ip6_text};
 ghost use Rattle.bound_table.specs.Lines.{needs_text, row_line, row_lines, table_text};
 
-use addr_bits::{Bytes, write_ip4, write_ip6};
+use addr_bits::{AddressFamily, Bytes};
 use fewest_terms::{Needs, Rows};
 use itoa::Buffer;
 use std::alloc::{AllocError, Global};
@@ -39,21 +37,12 @@ fn push_row(lines: &mut Bytes, address: &str, len: u32, needs: &Needs) -> Result
     lines.push(b'\n')
 }
 
-fn push_rows4(lines: &mut Bytes, rows: &Rows<u32>) -> Result<(), AllocError>
-    ensures { OnOk result (lines.new ≡ lines.old ++ row_lines ip4_text rows.now) }
+/// Appends the lines of a family's rows.
+fn push_rows<W: AddressFamily>(lines: &mut Bytes, rows: &Rows<W>) -> Result<(), AllocError>
+    ensures { OnOk result (lines.new ≡ lines.old ++ row_lines W.family rows.now) }
 {
     for row in rows.as_slice() {
-        let address = write_ip4(row.prefix.start());
-        push_row(lines, address.as_str(), row.prefix.len(), &row.needs)?;
-    }
-    Ok(())
-}
-
-fn push_rows6(lines: &mut Bytes, rows: &Rows<u128>) -> Result<(), AllocError>
-    ensures { OnOk result (lines.new ≡ lines.old ++ row_lines ip6_text rows.now) }
-{
-    for row in rows.as_slice() {
-        let address = write_ip6(row.prefix.start());
+        let address = row.prefix.start().write();
         push_row(lines, address.as_str(), row.prefix.len(), &row.needs)?;
     }
     Ok(())
@@ -68,8 +57,8 @@ pub fn append_table(
 ) -> Result<Bytes, AllocError>
     ensures { IfOk result (λ longer. longer ≡ bytes ++ table_text rows4.now rows6.now total) }
 {
-    push_rows4(&mut bytes, rows4)?;
-    push_rows6(&mut bytes, rows6)?;
+    push_rows(&mut bytes, rows4)?;
+    push_rows(&mut bytes, rows6)?;
     bytes.extend_from_slice(b"; fewest ")?;
     bytes.extend_from_slice(Buffer::new().format(total).as_bytes())?;
     bytes.push(b'\n')?;

@@ -5,10 +5,11 @@ use Rattle.spf_grammar.specs.declared.verdict.Verdict.{Verdict}
 use Rattle.addr_bits.specs.declared.address.Family.TheVariants.{V4, V6}
 use Rattle.spf_grammar.specs.declared.flat.FlatTerm.{FlatTerm}
 use Rattle.fewest_terms.specs.declared.needs.Needs.{Needs}
+use Rattle.addr_bits.specs.Address.{bits_of, address_of}
 use Rattle.addr_bits.specs.Prefix.{Cidr}
 use Rattle.fewest_terms.specs.Row.{NeedRow}
-use Rattle.spf_grammar.specs.Lists.{IsSame, bits}
-use Rattle.spf_grammar.specs.Families.{HavePrefixes, address_of}
+use Rattle.spf_grammar.specs.Lists.{IsSame}
+use Rattle.spf_grammar.specs.Families.{HavePrefixes}
 use Rattle.spf_grammar.specs.Flat.{first}
 use Rattle.spf_grammar.proofs.FirstLemmas.{first-seen}
 use Rattle.fewest_terms.specs.Needs.{need}
@@ -56,8 +57,8 @@ pub list-prefixes : (v4 v6 : ℕ → Verdict) (list : List FlatTerm) → list �
 list-prefixes v4 v6 list e = subst HavePrefixes (sym e) (HavePrefixes-chosen_list v4 v6)
 
 -- what each family sees decides for its addresses
-pub list-gives4 : (v4 v6 : ℕ → Verdict) (list : List FlatTerm) → list ≡ chosen_list v4 v6 → (a : ℕ) → a < 2 ^ bits V4 → first list (address_of V4 a) ≡ v4 a
+pub list-gives4 : (v4 v6 : ℕ → Verdict) (list : List FlatTerm) → list ≡ chosen_list v4 v6 → (a : ℕ) → a < 2 ^ bits_of V4 → first list (address_of V4 a) ≡ v4 a
 list-gives4 v4 v6 list e a h = first-seen V4 list a (list-prefixes v4 v6 list e) ∙ (list-same v4 v6 list e).four a h
 
-pub list-gives6 : (v4 v6 : ℕ → Verdict) (list : List FlatTerm) → list ≡ chosen_list v4 v6 → (a : ℕ) → a < 2 ^ bits V6 → first list (address_of V6 a) ≡ v6 a
+pub list-gives6 : (v4 v6 : ℕ → Verdict) (list : List FlatTerm) → list ≡ chosen_list v4 v6 → (a : ℕ) → a < 2 ^ bits_of V6 → first list (address_of V6 a) ≡ v6 a
 list-gives6 v4 v6 list e a h = first-seen V6 list a (list-prefixes v4 v6 list e) ∙ (list-same v4 v6 list e).six a h

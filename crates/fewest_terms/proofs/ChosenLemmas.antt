@@ -8,13 +8,14 @@ use Rattle.spf_grammar.specs.declared.verdict.Verdict.TheVariants.{Fail, SoftFai
 use Rattle.addr_bits.specs.declared.address.Family.{Family}
 use Rattle.addr_bits.specs.declared.address.Family.TheVariants.{V4, V6}
 use Rattle.spf_grammar.specs.declared.flat.Net.{Net}
-use Rattle.spf_grammar.specs.declared.flat.Net.TheVariants.{V4 as Net4, V6 as Net6}
+use Rattle.spf_grammar.specs.Families.{net_in}
 use Rattle.spf_grammar.specs.declared.flat.FlatTerm.{FlatTerm}
+use Rattle.addr_bits.specs.Address.{bits_of}
 use Rattle.addr_bits.specs.Prefix.{Cidr}
 use Rattle.fewest_terms.specs.Verdicts.{is_same, cost, least}
 use Rattle.addr_bits.specs.Blocks.{lowest, prefix_of}
 use Rattle.spf_grammar.specs.FirstMatch.{reaches, first_rule}
-use Rattle.spf_grammar.specs.Lists.{IsSame, bits, reach, seen}
+use Rattle.spf_grammar.specs.Lists.{IsSame, reach, seen}
 use Rattle.fewest_terms.specs.Needs.{is_mixed, need, need_of_halves}
 use Rattle.fewest_terms.specs.Totals.{need_of_both, total, verdict_of_all}
 use Rattle.fewest_terms.specs.Chosen.{ChosenIsSame, ChosenIsShortest, one_term, best, chosen, flat, all_term, chosen_list}
@@ -24,26 +25,21 @@ use Rattle.fewest_terms.proofs.Mixed.{need-mixed, need-plain, same-lowest, halve
 
 -- the network of a prefix
 abbrev net_of : Family → (k n : ℕ) → Net
-net_of V4 k n = Net4 (prefix_of 32 k n)
-net_of V6 k n = Net6 (prefix_of 128 k n)
+net_of f k n = net_in f (prefix_of (bits_of f) k n)
 
 -- the terms of one family, as those of a list for both
 flats : Family → (ℕ → Verdict) → (k n : ℕ) → Verdict → List FlatTerm
-flats f v k n c = map (flat f) (chosen (bits f) v k n c)
+flats f v k n c = map (flat f) (chosen (bits_of f) v k n c)
 
 abbrev one_flat : Family → (k n : ℕ) → (verdict had : Verdict) → List FlatTerm
 one_flat f k n d c = cond (is_same d c) [] (record { verdict = d; net = net_of f k n } ∷ [])
 
-flat-term : (f : Family) (k n : ℕ) (d : Verdict) → flat f ((prefix_of (bits f) k n, d)) ≡ record { verdict = d; net = net_of f k n }
-flat-term V4 k n d = refl
-flat-term V6 k n d = refl
-
-flat-one : (f : Family) (k n : ℕ) (d c : Verdict) → map (flat f) (one_term (bits f) k n d c) ≡ one_flat f k n d c
+flat-one : (f : Family) (k n : ℕ) (d c : Verdict) → map (flat f) (one_term (bits_of f) k n d c) ≡ one_flat f k n d c
 flat-one f k n d c = go (is_same d c)
   where
-    go : (b : Bool) → map (flat f) (cond b [] ((prefix_of (bits f) k n, d) ∷ [])) ≡ cond b [] (record { verdict = d; net = net_of f k n } ∷ [])
+    go : (b : Bool) → map (flat f) (cond b [] ((prefix_of (bits_of f) k n, d) ∷ [])) ≡ cond b [] (record { verdict = d; net = net_of f k n } ∷ [])
     go true = refl
-    go false = ap (λ t. t ∷ []) (flat-term f k n d)
+    go false = refl
 
 -- the verdict that a list gives an address, and c where no term covers it
 give : Family → Verdict → List FlatTerm → ℕ → Verdict
@@ -73,16 +69,16 @@ reads_back : (w k n a : ℕ) → k ≤ w → (a / 2 ^ (w - (w - k)) == lowest k 
 reads_back w k n a h =
     ap (λ j. a / 2 ^ j == lowest k n / 2 ^ j) (omega arith) ∙ ap (λ m. a / 2 ^ k == m) (lies-lowest k n)
 
-reaches-net : (f : Family) (k n a : ℕ) → k ≤ bits f → reaches (reach f (net_of f k n)) a ≡ (a / 2 ^ k == n)
+reaches-net : (f : Family) (k n a : ℕ) → k ≤ bits_of f → reaches (reach f (net_of f k n)) a ≡ (a / 2 ^ k == n)
 reaches-net V4 k n a h = reads_back 32 k n a h
 reaches-net V6 k n a h = reads_back 128 k n a h
 
-half_misses_own : (f : Family) (h k n a : ℕ) → h / 2 ≡ n → suc k ≤ bits f → reaches (reach f (net_of f (suc k) n)) a ≡ false → reaches (reach f (net_of f k h)) a ≡ false
+half_misses_own : (f : Family) (h k n a : ℕ) → h / 2 ≡ n → suc k ≤ bits_of f → reaches (reach f (net_of f (suc k) n)) a ≡ false → reaches (reach f (net_of f k h)) a ≡ false
 half_misses_own f h k n a e w c = reaches-net f k h a (omega arith) ∙ ne_eqb (a / 2 ^ k) h (λ q.
     false≢true (sym c ∙ reaches-net f (suc k) n a w ∙ eq-eqb (a / 2 ^ (suc k)) n (drop_bit_last a k ∙ ap (λ x. x / 2) q ∙ e)))
 
 -- what a prefix does not cover, in any family, its halves do not cover
-half_misses : (f g : Family) (h k n a : ℕ) → h / 2 ≡ n → suc k ≤ bits f → reaches (reach g (net_of f (suc k) n)) a ≡ false → reaches (reach g (net_of f k h)) a ≡ false
+half_misses : (f g : Family) (h k n a : ℕ) → h / 2 ≡ n → suc k ≤ bits_of f → reaches (reach g (net_of f (suc k) n)) a ≡ false → reaches (reach g (net_of f k h)) a ≡ false
 half_misses V4 V6 h k n a e w c = refl
 half_misses V6 V4 h k n a e w c = refl
 half_misses V4 V4 h k n a e w c = half_misses_own V4 h k n a e w c
@@ -123,20 +119,20 @@ own_choice w v k n c =
       ]
     ]
 
-flat_choice : (f : Family) (v : ℕ → Verdict) (k n : ℕ) (c : Verdict) → OwnChoice (bits f) v k n c → Choice f v k n c
+flat_choice : (f : Family) (v : ℕ → Verdict) (k n : ℕ) (c : Verdict) → OwnChoice (bits_of f) v k n c → Choice f v k n c
 unfolding flats
 flat_choice f v k n c (own_plain m e) = plain m (ap (map (flat f)) e ∙ flat-one f (suc k) n (v (lowest (suc k) n)) c)
-flat_choice f v k n c (own_kept m le e) = kept m le (ap (map (flat f)) e ∙ map-append (flat f) (chosen (bits f) v k (2 * n) c) (chosen (bits f) v k (2 * n + 1) c))
+flat_choice f v k n c (own_kept m le e) = kept m le (ap (map (flat f)) e ∙ map-append (flat f) (chosen (bits_of f) v k (2 * n) c) (chosen (bits_of f) v k (2 * n + 1) c))
 flat_choice f v k n c (own_fresh m lt e) =
     let d : Verdict = best (need_of_halves v k n) in
-    let low : List (Cidr × Verdict) = chosen (bits f) v k (2 * n) d in
-    let high : List (Cidr × Verdict) = chosen (bits f) v k (2 * n + 1) d in
-    let t : (Cidr × Verdict) = (prefix_of (bits f) (suc k) n, d) in
+    let low : List (Cidr × Verdict) = chosen (bits_of f) v k (2 * n) d in
+    let high : List (Cidr × Verdict) = chosen (bits_of f) v k (2 * n + 1) d in
+    let t : (Cidr × Verdict) = (prefix_of (bits_of f) (suc k) n, d) in
     fresh m lt d (best-least (need_of_halves v k n)) (ap (map (flat f)) e ∙ map-append (flat f) low (high ++ t ∷ [])
-    ∙ ap (λ xs. map (flat f) low ++ xs) (map-append (flat f) high (t ∷ []) ∙ ap (λ x. map (flat f) high ++ x ∷ []) (flat-term f (suc k) n d)))
+    ∙ ap (λ xs. map (flat f) low ++ xs) (map-append (flat f) high (t ∷ [])))
 
 choice : (f : Family) (v : ℕ → Verdict) (k n : ℕ) (c : Verdict) → Choice f v k n c
-choice f v k n c = flat_choice f v k n c (own_choice (bits f) v k n c)
+choice f v k n c = flat_choice f v k n c (own_choice (bits_of f) v k n c)
 
 pub chosen-zero : (w : ℕ) (v : ℕ → Verdict) (n : ℕ) (c : Verdict) → chosen w v zero n c ≡ one_term w zero n (v n) c
 unfolding chosen
@@ -144,7 +140,7 @@ chosen-zero w v n c = refl
 
 flats-zero : (f : Family) (v : ℕ → Verdict) (n : ℕ) (c : Verdict) → flats f v zero n c ≡ one_flat f zero n (v n) c
 unfolding flats
-flats-zero f v n c = ap (map (flat f)) (chosen-zero (bits f) v n c) ∙ flat-one f zero n (v n) c
+flats-zero f v n c = ap (map (flat f)) (chosen-zero (bits_of f) v n c) ∙ flat-one f zero n (v n) c
 
 -- how long it is
 length-one_flat : (f : Family) (k n : ℕ) (d c : Verdict) → length (one_flat f k n d c) ≡ cost d c
@@ -223,24 +219,24 @@ misses_by f g v k n c a off l h (fresh m lt d b e) x =
     ap (λ list. give g x list a) e ∙ Misses-append g (flats f v k (2 * n) d) (flats f v k (2 * n + 1) d ++ last) a (l d)
     (Misses-append g (flats f v k (2 * n + 1) d) last a (h d) (λ y. give-none g y d (net_of f (suc k) n) a off)) x
 
-flats-misses : (f g : Family) (v : ℕ → Verdict) (k n : ℕ) (c : Verdict) (a : ℕ) → k ≤ bits f → reaches (reach g (net_of f k n)) a ≡ false → Misses g (flats f v k n c) a
+flats-misses : (f g : Family) (v : ℕ → Verdict) (k n : ℕ) (c : Verdict) (a : ℕ) → k ≤ bits_of f → reaches (reach g (net_of f k n)) a ≡ false → Misses g (flats f v k n c) a
 flats-misses f g v zero n c a w off x = ap (λ list. give g x list a) (flats-zero f v n c) ∙ one_flat-misses f g zero n (v n) c a off x
 flats-misses f g v (suc k) n c a w off x = misses_by f g v k n c a off
     (λ y. flats-misses f g v k (2 * n) y a (omega arith) (half_misses f g (2 * n) k n a (omega arith) w off))
     (λ y. flats-misses f g v k (2 * n + 1) y a (omega arith) (half_misses f g (2 * n + 1) k n a (omega arith) w off))
     (choice f v k n c) x
 
-reaches-in : (f : Family) (k n a : ℕ) → k ≤ bits f → a / 2 ^ k ≡ n → reaches (reach f (net_of f k n)) a ≡ true
+reaches-in : (f : Family) (k n a : ℕ) → k ≤ bits_of f → a / 2 ^ k ≡ n → reaches (reach f (net_of f k n)) a ≡ true
 reaches-in f k n a w e = reaches-net f k n a w ∙ eq-eqb (a / 2 ^ k) n e
 
-reaches-out : (f : Family) (k n a : ℕ) → k ≤ bits f → (a / 2 ^ k ≡ n → ⊥) → reaches (reach f (net_of f k n)) a ≡ false
+reaches-out : (f : Family) (k n a : ℕ) → k ≤ bits_of f → (a / 2 ^ k ≡ n → ⊥) → reaches (reach f (net_of f k n)) a ≡ false
 reaches-out f k n a w e = reaches-net f k n a w ∙ ne_eqb (a / 2 ^ k) n e
 
 -- both halves, each with its own list
 abbrev Gives : Family → (ℕ → Verdict) → (k n : ℕ) → Type 0
 Gives f v k n = (x : Verdict) (a : ℕ) → a / 2 ^ k ≡ n → give f x (flats f v k n x) a ≡ v a
 
-halves_give : (f : Family) (v : ℕ → Verdict) (k n : ℕ) → suc k ≤ bits f → Gives f v k (2 * n) → Gives f v k (2 * n + 1)
+halves_give : (f : Family) (v : ℕ → Verdict) (k n : ℕ) → suc k ≤ bits_of f → Gives f v k (2 * n) → Gives f v k (2 * n + 1)
     → (x : Verdict) (a : ℕ) → a / 2 ^ (suc k) ≡ n → give f x (flats f v k (2 * n) x ++ flats f v k (2 * n + 1) x) a ≡ v a
 halves_give f v k n w l h x a e =
     let low : List FlatTerm = flats f v k (2 * n) x in
@@ -254,7 +250,7 @@ halves_give f v k n w l h x a e =
           ∙ h x a i
     ]
 
-gives_by : (f : Family) (v : ℕ → Verdict) (k n : ℕ) → suc k ≤ bits f → Gives f v k (2 * n) → Gives f v k (2 * n + 1)
+gives_by : (f : Family) (v : ℕ → Verdict) (k n : ℕ) → suc k ≤ bits_of f → Gives f v k (2 * n) → Gives f v k (2 * n + 1)
     → (c : Verdict) (a : ℕ) → a / 2 ^ (suc k) ≡ n → Choice f v k n c → give f c (flats f v (suc k) n c) a ≡ v a
 gives_by f v k n w l h c a i (plain m e) =
     ap (λ list. give f c list a) e ∙ one_flat-gives f (suc k) n (v (lowest (suc k) n)) c a (reaches-in f (suc k) n a w i) ∙ sym (same-lowest v (suc k) n a m i)
@@ -267,7 +263,7 @@ gives_by f v k n w l h c a i (fresh m lt d b e) =
     ∙ ap (λ y. give f y (low ++ high) a) (give-one f c d (net_of f (suc k) n) a (reaches-in f (suc k) n a w i))
     ∙ halves_give f v k n w l h d a i
 
-flats-gives : (f : Family) (v : ℕ → Verdict) (k n : ℕ) → k ≤ bits f → Gives f v k n
+flats-gives : (f : Family) (v : ℕ → Verdict) (k n : ℕ) → k ≤ bits_of f → Gives f v k n
 flats-gives f v zero n w c a i =
     ap (λ list. give f c list a) (flats-zero f v n c) ∙ one_flat-gives f zero n (v n) c a (reaches-in f zero n a w i) ∙ ap v (sym i ∙ div-one a)
 flats-gives f v (suc k) n w c a i =
@@ -275,14 +271,10 @@ flats-gives f v (suc k) n w c a i =
 
 give-all : (f : Family) (c : Verdict) (a : ℕ) → give f Neutral (all_term c) a ≡ c
 unfolding give
-give-all V4 Fail a = refl
-give-all V4 SoftFail a = refl
-give-all V4 Pass a = refl
-give-all V4 Neutral a = refl
-give-all V6 Fail a = refl
-give-all V6 SoftFail a = refl
-give-all V6 Pass a = refl
-give-all V6 Neutral a = refl
+give-all f Fail a = refl
+give-all f SoftFail a = refl
+give-all f Pass a = refl
+give-all f Neutral a = refl
 
 in_all : (k a : ℕ) → a < 2 ^ k → a / 2 ^ k ≡ 0
 in_all k a h = grind (arith, div_below)

@@ -1,5 +1,6 @@
 -- The prefixes of the chosen list are prefixes of addresses.
 use Rattle.std.proofs.Common.{ℕ, zero, suc, ◌≡◌, ◌+◌, ◌*◌, ◌^◌, ◌≤◌, Bool, true, false, cond, List, [], ◌∷◌, ◌++◌, map, refl, sym, subst, arith}
+use Rattle.addr_bits.specs.Address.{bits_of}
 use Rattle.addr_bits.specs.Prefix.{Cidr, IsCidr}
 use Rattle.addr_bits.specs.Blocks.{lowest, prefix_of}
 use Rattle.addr_bits.specs.declared.address.Family.{Family}
@@ -7,7 +8,6 @@ use Rattle.addr_bits.specs.declared.address.Family.TheVariants.{V4, V6}
 use Rattle.spf_grammar.specs.declared.verdict.Verdict.{Verdict}
 use Rattle.spf_grammar.specs.declared.verdict.Verdict.TheVariants.{Fail, SoftFail, Pass, Neutral}
 use Rattle.spf_grammar.specs.declared.flat.FlatTerm.{FlatTerm}
-use Rattle.spf_grammar.specs.Lists.{bits}
 use Rattle.spf_grammar.specs.Families.{HavePrefixes}
 use Rattle.fewest_terms.specs.Verdicts.{is_same}
 use Rattle.fewest_terms.specs.Needs.{need_of_halves}
@@ -47,7 +47,7 @@ AreCidrs-chosen w v (suc k) n c h l =
     by_choice w v k n c h l (λ d. AreCidrs-chosen w v k (2 * n) d (omega arith) (omega (arith, lowest-both k n, lowest-next k (2 * n + 1))))
     (λ d. AreCidrs-chosen w v k (2 * n + 1) d (omega arith) (omega (arith, lowest-both k n))) (own_choice w v k n c)
 
-HavePrefixes-flat : (f : Family) (ts : List (Cidr × Verdict)) → AreCidrs (bits f) ts → HavePrefixes (map (flat f) ts)
+HavePrefixes-flat : (f : Family) (ts : List (Cidr × Verdict)) → AreCidrs (bits_of f) ts → HavePrefixes (map (flat f) ts)
 HavePrefixes-flat V4 [] h = tt
 HavePrefixes-flat V4 (t ∷ ts) h = (h.0, HavePrefixes-flat V4 ts h.1)
 HavePrefixes-flat V6 [] h = tt
@@ -64,7 +64,7 @@ HavePrefixes-all_term Pass = (tt, tt)
 HavePrefixes-all_term Neutral = tt
 
 -- all addresses of a family
-HavePrefixes-family : (f : Family) (w : ℕ) (v : ℕ → Verdict) (c : Verdict) → w ≡ bits f → HavePrefixes (map (flat f) (chosen w v w 0 c))
+HavePrefixes-family : (f : Family) (w : ℕ) (v : ℕ → Verdict) (c : Verdict) → w ≡ bits_of f → HavePrefixes (map (flat f) (chosen w v w 0 c))
 HavePrefixes-family f w v c e =
     HavePrefixes-flat f (chosen w v w 0 c) (subst (λ b. AreCidrs b (chosen w v w 0 c)) e (AreCidrs-chosen w v w 0 c (omega arith) (omega (arith, one w))))
   where

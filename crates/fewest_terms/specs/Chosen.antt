@@ -4,11 +4,12 @@ use Rattle.spf_grammar.specs.declared.verdict.Verdict.{Verdict}
 use Rattle.spf_grammar.specs.declared.verdict.Verdict.TheVariants.{Fail, SoftFail, Pass, Neutral}
 use Rattle.addr_bits.specs.declared.address.Family.{Family}
 use Rattle.addr_bits.specs.declared.address.Family.TheVariants.{V4, V6}
-use Rattle.spf_grammar.specs.declared.flat.Net.TheVariants.{V4 as Net4, V6 as Net6, All}
+use Rattle.spf_grammar.specs.declared.flat.Net.TheVariants.{All}
 use Rattle.spf_grammar.specs.declared.flat.FlatTerm.{FlatTerm}
 use Rattle.fewest_terms.specs.Verdicts.{is_same, least}
 use Rattle.addr_bits.specs.Blocks.{lowest, prefix_of}
 use Rattle.addr_bits.specs.Prefix.{Cidr}
+use Rattle.spf_grammar.specs.Families.{net_in}
 use Rattle.spf_grammar.specs.Lists.{IsSame}
 use Rattle.fewest_terms.specs.Needs.{is_mixed, need_of_halves}
 use Rattle.fewest_terms.specs.Totals.{need_of_both, total, verdict_of_all}
@@ -41,8 +42,7 @@ chosen w v (suc k) n c =
 
 -- such a term as one of a list for both families
 abbrev pub flat : Family → (Cidr × Verdict) → FlatTerm
-flat V4 t = record { verdict = t.1; net = Net4 t.0 }
-flat V6 t = record { verdict = t.1; net = Net6 t.0 }
+flat f t = record { verdict = t.1; net = net_in f t.0 }
 
 -- `all` with a verdict, which is left out for neutral
 abbrev pub all_term : Verdict → List FlatTerm

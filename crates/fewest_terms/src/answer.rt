@@ -2,7 +2,6 @@
 ghost use Rattle.std.specs.Prelude.{ℕ, ◌≡◌, ◌<◌, ◌≤◌, ◌^◌, ◌++◌, List, length, map, IfOk};
 ghost use Rattle.spf_grammar.specs.declared.verdict.Verdict.{Verdict};
 ghost use Rattle.addr_bits.specs.declared.address.Address.TheVariants as address;
-ghost use Rattle.addr_bits.specs.declared.address.Family.TheVariants.{V4, V6};
 ghost use Rattle.spf_grammar.specs.declared.flat.FlatTerm.{FlatTerm};
 ghost use Rattle.spf_grammar.specs.Families.{HavePrefixes};
 ghost use Rattle.spf_grammar.specs.Flat.{first};
@@ -18,7 +17,7 @@ use crate::walk::walk;
 use crate::{FlatList, Needs, Row, Rows};
 use addr_bits::{Prefix, Width};
 use prefix_trie::TrieMap;
-use spf_grammar::{FlatTerm, Net, Verdict};
+use spf_grammar::{FlatTerm, Net, NetworkFamily, Verdict};
 use std::alloc::{AllocError, Global};
 
 /// A shortest list, with what shows that none is shorter.
@@ -73,27 +72,17 @@ fn terms_of<W: Width>(
     Ok(terms)
 }
 
-/// Appends the terms of IPv4.
-fn push_four(list: &mut FlatList, terms: &[(Prefix<u32>, Verdict)]) -> Result<(), AllocError>
-    ensures { IfOk result (λ _. list.new ≡ list.old ++ map (flat V4) terms.now) }
+/// Appends the terms of one family.
+fn push_terms<W: NetworkFamily>(
+    list: &mut FlatList,
+    terms: &[(Prefix<W>, Verdict)],
+) -> Result<(), AllocError>
+    ensures { IfOk result (λ _. list.new ≡ list.old ++ map (flat W.family) terms.now) }
 {
-    for &(prefix, verdict) in terms {
+    for (prefix, verdict) in terms {
         list.push(FlatTerm {
-            verdict,
-            net: Net::V4(prefix),
-        })?;
-    }
-    Ok(())
-}
-
-/// Appends the terms of IPv6.
-fn push_six(list: &mut FlatList, terms: &[(Prefix<u128>, Verdict)]) -> Result<(), AllocError>
-    ensures { IfOk result (λ _. list.new ≡ list.old ++ map (flat V6) terms.now) }
-{
-    for &(prefix, verdict) in terms {
-        list.push(FlatTerm {
-            verdict,
-            net: Net::V6(prefix),
+            verdict: *verdict,
+            net: W::net(prefix),
         })?;
     }
     Ok(())
@@ -135,8 +124,8 @@ fn fewest_of_leaves(
     let terms4 = terms_of(alloc, leaves4, &four.rows, verdict)?;
     let terms6 = terms_of(alloc, leaves6, &six.rows, verdict)?;
     let mut list = FlatList::new(alloc);
-    push_four(&mut list, &terms4)?;
-    push_six(&mut list, &terms6)?;
+    push_terms(&mut list, &terms4)?;
+    push_terms(&mut list, &terms6)?;
     push_all(&mut list, verdict)?;
     Ok(Shortest {
         rows4: rows_from(alloc, &four.rows)?,

@@ -25,7 +25,7 @@ pub(crate) fn kept_verdicts(
     ensures refused { IfErr result (ErrorIs (IsRefusedAddress limits zones.now domain.now)) }
 {
     let both = evaluate(alloc, zones, limits, domain)?;
-    match verdicts(alloc, &both.v4, &both.v6) {
+    match verdicts(&both.v4, &both.v6) {
         Ok(tries) => Ok(tries),
         Err(VerdictFault::Refused { address, outcome }) => {
             Err(OrMemory::Error(Refusal::NoVerdict { address, outcome }))

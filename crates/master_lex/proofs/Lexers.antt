@@ -14,7 +14,8 @@ use Rattle.std.proofs.lemmas.List.Sums.{count_by-le-length}
 use Rattle.master_lex.proofs.Order.{entries_left, entries_rise, entries_more, spelled_some, compared}
 use Rattle.master_lex.proofs.Reach.{broken_more}
 use Rattle.master_lex.proofs.Pieces.{decided_some, none_broken}
-use Rattle.master_lex.proofs.Readings.{not_both}
+use Rattle.master_lex.specs.Broken.{IsBroken}
+use Rattle.master_lex.proofs.Readings.{not_both, one_fault}
 use Rattle.std.proofs.lemmas.List.{take_rest}
 use Rattle.std.proofs.lemmas.List.Elements.{filter-append}
 
@@ -184,3 +185,19 @@ one_next line bytes entry other number number' behind behind' n x = by (compared
     by : (((more : List Entry) × (x.passed ++ other ∷ [] ≡ (n.passed ++ entry ∷ []) ++ more) × AreEntries number behind more number' behind') ⊎ ((more : List Entry) × (n.passed ++ entry ∷ [] ≡ (x.passed ++ other ∷ []) ++ more) × AreEntries number' behind' more number behind)) → (entry ≡ other) × (number ≡ number') × (behind ≡ behind')
     by (inl m) = later m.0 m.1 m.2
     by (inr m) = earlier m.0 m.1 m.2
+
+-- one entry is the next broken one
+pub one_broken : (line : ℕ) (bytes : List ℕ) (broken other : ℕ) (kind kind' : LexKind) → IsNextBroken line bytes broken kind → IsNextBroken line bytes other kind' → (broken ≡ other) × (kind ≡ kind')
+one_broken line bytes broken other kind kind' x y = by (compared line bytes x.passed broken x.rest y.passed other y.rest x.in_order y.in_order)
+  where
+    -- nothing that is spelled stands behind a broken entry
+    here : (number last : ℕ) (rest end : List ℕ) (fault : LexKind) (place : ℕ) → IsBroken rest fault place → (more : List Entry) → AreEntries number rest more last end → (number ≡ last) × (rest ≡ end)
+    here number last rest end fault place f [] m = m
+    here number last rest end fault place f (next ∷ more) m = absurd (not_both m.0 m.1 rest next fault place m.3 m.2 f)
+
+    same : (rest end : List ℕ) → IsBroken rest kind x.place → IsBroken end kind' y.place → rest ≡ end → kind ≡ kind'
+    same rest end f g e = one_fault end kind kind' x.place y.place (subst (λ (l : List ℕ). IsBroken l kind x.place) e f) g
+
+    by : (((more : List Entry) × (y.passed ≡ x.passed ++ more) × AreEntries broken x.rest more other y.rest) ⊎ ((more : List Entry) × (x.passed ≡ y.passed ++ more) × AreEntries other y.rest more broken x.rest)) → (broken ≡ other) × (kind ≡ kind')
+    by (inl m) = let at = here broken other x.rest y.rest kind x.place x.fault m.0 m.2 in (at.0, same x.rest y.rest x.fault y.fault at.1)
+    by (inr m) = let at = here other broken y.rest x.rest kind' y.place y.fault m.0 m.2 in (sym at.0, same x.rest y.rest x.fault y.fault (sym at.1))

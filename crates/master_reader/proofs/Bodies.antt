@@ -5,6 +5,8 @@ use Rattle.std.specs.List.{list_any}
 use Rattle.std.proofs.Math.Seq.{drop-cons}
 use Rattle.std.proofs.lemmas.List.{map-append, length-map}
 use Rattle.std.proofs.lemmas.List.Sums.{sum_by-cons, sum_by-append}
+use Rattle.addr_bits.specs.declared.address.Family.{Family}
+use Rattle.addr_bits.specs.Address.{SpellsIn}
 use Rattle.master_lex.specs.declared.entry.Token.{Token}
 use Rattle.master_reader.specs.declared.fault.Kind.{Kind}
 use Rattle.master_reader.specs.declared.fault.Kind.TheVariants.{BadData}
@@ -13,17 +15,17 @@ use Rattle.master_reader.specs.Tokens.{bytes_of, is_bare}
 use Rattle.master_reader.specs.Data.{IsAddressBody, only_bare, is_long_text}
 
 -- a plain token without escapes that spells no address
-pub no_address : (Spells : List ℕ → ℕ → Type 0) (body : ℕ → Body) (content : List Token) (token : Token) (text : List ℕ) → only_bare content ≡ Some token → text ≡ bytes_of token → ((n : ℕ) → ¬ Spells text n) → IsAddressBody Spells body content (Err BadData)
-no_address Spells body [] token text is same none = absurd cc
-no_address Spells body (t ∷ []) token text is same none = by (is_bare t) refl is
+pub no_address : (f : Family) (content : List Token) (token : Token) (text : List ℕ) → only_bare content ≡ Some token → text ≡ bytes_of token → ((n : ℕ) → ¬ SpellsIn f text n) → IsAddressBody f content (Err BadData)
+no_address f [] token text is same none = absurd cc
+no_address f (t ∷ []) token text is same none = by (is_bare t) refl is
   where
-    spelled : t ≡ token → (n : ℕ) → ¬ Spells (bytes_of t) n
-    spelled e n s = none n (subst (λ (l : List ℕ). Spells l n) (ap bytes_of e ∙ sym same) s)
+    spelled : t ≡ token → (n : ℕ) → ¬ SpellsIn f (bytes_of t) n
+    spelled e n s = none n (subst (λ (l : List ℕ). SpellsIn f l n) (ap bytes_of e ∙ sym same) s)
 
-    by : (b : Bool) → is_bare t ≡ b → cond b (Some t) None ≡ Some token → MatchBool b ((BadData ≡ BadData) × ((n : ℕ) → ¬ Spells (bytes_of t) n)) (◌≡◌ {A = Result Body Kind} (Err BadData) (Err BadData))
+    by : (b : Bool) → is_bare t ≡ b → cond b (Some t) None ≡ Some token → MatchBool b ((BadData ≡ BadData) × ((n : ℕ) → ¬ SpellsIn f (bytes_of t) n)) (◌≡◌ {A = Result Body Kind} (Err BadData) (Err BadData))
     by true bare e = (refl, spelled cc)
     by false bare e = refl
-no_address Spells body (t ∷ u ∷ more) token text is same none = absurd cc
+no_address f (t ∷ u ∷ more) token text is same none = absurd cc
 
 -- ---- long texts
 

@@ -5,5 +5,6 @@ pub mod Bodies
 pub mod Types
 pub mod Asked
 pub mod Once
+pub mod Answered
 pub mod Taking
 pub mod Feeding

@@ -3,8 +3,9 @@ use Rattle.std.proofs.Common.{◌≡◌, ℕ, ◌⊎◌, Bool, true, false, cond
 use Rattle.std.specs.Prelude.{MatchBool, MatchResult, IsTrue}
 use Rattle.std.proofs.lemmas.List.Elements.{filter-append}
 use Rattle.std.proofs.lemmas.List.{append_cancel_right}
-use Rattle.addr_bits.specs.Ip4.{SpellsIp4}
-use Rattle.addr_bits.specs.Ip6.{SpellsIp6}
+use Rattle.addr_bits.specs.declared.address.Family.{Family}
+use Rattle.addr_bits.specs.declared.address.Family.TheVariants.{V4, V6}
+use Rattle.addr_bits.specs.Address.{address_of, SpellsIn}
 use Rattle.addr_bits.proofs.Texts.{one_address}
 use Rattle.master_lex.specs.declared.entry.Token.{Token}
 use Rattle.master_lex.specs.declared.entry.Entry.{Entry}
@@ -17,40 +18,39 @@ use Rattle.master_lex.proofs.Readings.{one_reading, not_both, one_fault, broken_
 use Rattle.master_reader.specs.declared.fault.Kind.{Kind}
 use Rattle.master_reader.specs.declared.fault.Kind.TheVariants as kinds
 use Rattle.master_reader.specs.declared.record.Body.{Body}
-use Rattle.master_reader.specs.declared.record.Body.TheVariants.{A, Aaaa}
 use Rattle.master_reader.specs.declared.record.Record.{Record}
 use Rattle.master_reader.specs.Tokens.{bytes_of, is_bare, is_word}
 use Rattle.master_reader.specs.Entry.{Context, Ask, a_record, an_origin, no_record, ask_of, context_behind}
-use Rattle.master_reader.specs.Data.{IsAddressBody, IsBody, other_body}
+use Rattle.master_reader.specs.Data.{address_body, IsAddressBody, IsBody, other_body}
 use Rattle.master_reader.specs.Reading.{Adds, Mean, IsFaulty, records_kept, first_context, StartsBroken, StartsFaulty, Reads, Faults, kind_of}
 use Rattle.std.specs.Prelude.{codes}
 
 -- ---- one body
 
-address_once : (Spells : List ℕ → ℕ → Type 0) (body : ℕ → Body) → ((text : List ℕ) (a b : ℕ) → Spells text a → Spells text b → a ≡ b) → (content : List Token) (r s : Result Body Kind) → IsAddressBody Spells body content r → IsAddressBody Spells body content s → r ≡ s
-address_once Spells body one [] r s h k = h ∙ sym k
-address_once Spells body one (token ∷ other ∷ more) r s h k = h ∙ sym k
-address_once Spells body one (token ∷ []) r s h k = by (is_bare token) r s h k
+address_once : (f : Family) (content : List Token) (r s : Result Body Kind) → IsAddressBody f content r → IsAddressBody f content s → r ≡ s
+address_once f [] r s h k = h ∙ sym k
+address_once f (token ∷ other ∷ more) r s h k = h ∙ sym k
+address_once f (token ∷ []) r s h k = by (is_bare token) r s h k
   where
-    spelled : (r s : Result Body Kind) → MatchResult r (λ is. (n : ℕ) × Spells (bytes_of token) n × (is ≡ body n)) (λ kind. (kind ≡ kinds.BadData) × ((n : ℕ) → ¬ Spells (bytes_of token) n))
-        → MatchResult s (λ is. (n : ℕ) × Spells (bytes_of token) n × (is ≡ body n)) (λ kind. (kind ≡ kinds.BadData) × ((n : ℕ) → ¬ Spells (bytes_of token) n)) → r ≡ s
-    spelled (Ok x) (Ok y) h k = ap Ok (h.2 ∙ ap body (one (bytes_of token) h.0 k.0 h.1 k.1) ∙ sym k.2)
+    spelled : (r s : Result Body Kind) → MatchResult r (λ is. (n : ℕ) × SpellsIn f (bytes_of token) n × (is ≡ address_body (address_of f n))) (λ kind. (kind ≡ kinds.BadData) × ((n : ℕ) → ¬ SpellsIn f (bytes_of token) n))
+        → MatchResult s (λ is. (n : ℕ) × SpellsIn f (bytes_of token) n × (is ≡ address_body (address_of f n))) (λ kind. (kind ≡ kinds.BadData) × ((n : ℕ) → ¬ SpellsIn f (bytes_of token) n)) → r ≡ s
+    spelled (Ok x) (Ok y) h k = ap Ok (h.2 ∙ ap (λ n. address_body (address_of f n)) (one_address.one f (bytes_of token) h.0 k.0 h.1 k.1) ∙ sym k.2)
     spelled (Ok x) (Err g) h k = absurd (k.1 h.0 h.1)
     spelled (Err f) (Ok y) h k = absurd (h.1 k.0 k.1)
     spelled (Err f) (Err g) h k = ap Err (h.0 ∙ sym k.0)
 
-    by : (b : Bool) (r s : Result Body Kind) → MatchBool b (MatchResult r (λ is. (n : ℕ) × Spells (bytes_of token) n × (is ≡ body n)) (λ kind. (kind ≡ kinds.BadData) × ((n : ℕ) → ¬ Spells (bytes_of token) n))) (r ≡ Err kinds.BadData)
-        → MatchBool b (MatchResult s (λ is. (n : ℕ) × Spells (bytes_of token) n × (is ≡ body n)) (λ kind. (kind ≡ kinds.BadData) × ((n : ℕ) → ¬ Spells (bytes_of token) n))) (s ≡ Err kinds.BadData) → r ≡ s
+    by : (b : Bool) (r s : Result Body Kind) → MatchBool b (MatchResult r (λ is. (n : ℕ) × SpellsIn f (bytes_of token) n × (is ≡ address_body (address_of f n))) (λ kind. (kind ≡ kinds.BadData) × ((n : ℕ) → ¬ SpellsIn f (bytes_of token) n))) (r ≡ Err kinds.BadData)
+        → MatchBool b (MatchResult s (λ is. (n : ℕ) × SpellsIn f (bytes_of token) n × (is ≡ address_body (address_of f n))) (λ kind. (kind ≡ kinds.BadData) × ((n : ℕ) → ¬ SpellsIn f (bytes_of token) n))) (s ≡ Err kinds.BadData) → r ≡ s
     by true r s h k = spelled r s h k
     by false r s h k = h ∙ sym k
 
 pub body_once : (origin : List (List ℕ)) (type : Token) (content : List Token) (r s : Result Body Kind) → IsBody origin type content r → IsBody origin type content s → r ≡ s
 body_once origin type content r s h k = by (is_word type (codes "a")) (is_word type (codes "aaaa")) h k
   where
-    by : (a b : Bool) → MatchBool a (IsAddressBody SpellsIp4 A content r) (MatchBool b (IsAddressBody SpellsIp6 Aaaa content r) (r ≡ other_body origin type content))
-        → MatchBool a (IsAddressBody SpellsIp4 A content s) (MatchBool b (IsAddressBody SpellsIp6 Aaaa content s) (s ≡ other_body origin type content)) → r ≡ s
-    by true b h k = address_once SpellsIp4 A one_address.one4 content r s h k
-    by false true h k = address_once SpellsIp6 Aaaa one_address.one6 content r s h k
+    by : (a b : Bool) → MatchBool a (IsAddressBody V4 content r) (MatchBool b (IsAddressBody V6 content r) (r ≡ other_body origin type content))
+        → MatchBool a (IsAddressBody V4 content s) (MatchBool b (IsAddressBody V6 content s) (s ≡ other_body origin type content)) → r ≡ s
+    by true b h k = address_once V4 content r s h k
+    by false true h k = address_once V6 content r s h k
     by false false h k = h ∙ sym k
 
 -- ---- one meaning

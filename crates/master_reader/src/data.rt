@@ -1,19 +1,18 @@
 //! The bodies of records.
 ghost use Rattle.std.specs.Prelude.{◌≡◌, None, Some, Ok, Err, IfOk, false, true, map, MatchResult, MatchOption};
 ghost use Rattle.std.specs.Str.Parse.{digits_value};
-ghost use Rattle.addr_bits.specs.Ip4.{SpellsIp4};
-ghost use Rattle.addr_bits.specs.Ip6.{SpellsIp6};
+ghost use Rattle.addr_bits.specs.Address.{address_of};
 ghost use Rattle.master_reader.specs.declared.record.Body.TheVariants as bodies;
 ghost use Rattle.master_reader.specs.Tokens as tokens;
 ghost use Rattle.master_reader.specs.Entry as entries;
-ghost use Rattle.master_reader.specs.Data.{only_bare, IsAddressBody, IsBody, is_preference, is_long_text, mx_body, txt_body, other_body};
+ghost use Rattle.master_reader.specs.Data.{only_bare, address_body, IsAddressBody, IsBody, is_preference, is_long_text, mx_body, txt_body, other_body};
 ghost use Rattle.master_reader.specs.Refusals.{RefusalIs};
 
 use crate::fault::{Kind, Refusal};
 use crate::names::name_in;
 use crate::record::{Body, Text};
 use crate::words::{are_digits, bytes_of, is_bare, is_word, number_of};
-use addr_bits::{read_ip4, read_ip6};
+use addr_bits::AddressFamily;
 use dns_name::Name;
 use master_lex::Token;
 use std::alloc::{AllocError, Global};
@@ -44,30 +43,16 @@ fn only_bare(tokens: &[Token]) -> Option<&Token>
     }
 }
 
-/// An IPv4 address (RFC 1035, section 3.4.1).
-fn ip4_of(alloc: Global, content: &[Token]) -> Result<u32, Refusal>
-    ensures { MatchResult result (λ a. IsAddressBody SpellsIp4 bodies.A content.now (Ok (bodies.A a))) (RefusalIs (λ kind. IsAddressBody SpellsIp4 bodies.A content.now (Err kind))) }
+/// The number of an address (RFC 1035, section 3.4.1, and RFC 3596, section 2.2).
+fn number_of_address<W: AddressFamily>(alloc: Global, content: &[Token]) -> Result<W, Refusal>
+    ensures { MatchResult result (λ a. IsAddressBody W.family content.now (Ok (address_body (address_of W.family (W.number a))))) (RefusalIs (λ kind. IsAddressBody W.family content.now (Err kind))) }
 {
     let Some(token) = only_bare(content) else {
         return Err(Refusal::Faulty(Kind::BadData));
     };
     let text = bytes_of(alloc, token)?;
-    match read_ip4(text.as_slice()) {
-        Ok(address) => Ok(address),
-        Err(_) => Err(Refusal::Faulty(Kind::BadData)),
-    }
-}
-
-/// An IPv6 address (RFC 3596, section 2.2).
-fn ip6_of(alloc: Global, content: &[Token]) -> Result<u128, Refusal>
-    ensures { MatchResult result (λ a. IsAddressBody SpellsIp6 bodies.Aaaa content.now (Ok (bodies.Aaaa a))) (RefusalIs (λ kind. IsAddressBody SpellsIp6 bodies.Aaaa content.now (Err kind))) }
-{
-    let Some(token) = only_bare(content) else {
-        return Err(Refusal::Faulty(Kind::BadData));
-    };
-    let text = bytes_of(alloc, token)?;
-    match read_ip6(text.as_slice()) {
-        Ok(address) => Ok(address),
+    match W::read(text.as_slice()) {
+        Ok(number) => Ok(number),
         Err(_) => Err(Refusal::Faulty(Kind::BadData)),
     }
 }
@@ -176,9 +161,9 @@ pub(crate) fn body_of(
     ensures { MatchResult result (λ body. IsBody origin.now kind.now content.now (Ok body)) (RefusalIs (λ fault. IsBody origin.now kind.now content.now (Err fault))) }
 {
     if is_word(kind, b"a") {
-        Ok(Body::A(ip4_of(alloc, content)?))
+        Ok(Body::A(number_of_address(alloc, content)?))
     } else if is_word(kind, b"aaaa") {
-        Ok(Body::Aaaa(ip6_of(alloc, content)?))
+        Ok(Body::Aaaa(number_of_address(alloc, content)?))
     } else {
         other_body_of(alloc, origin, kind, content)
     }

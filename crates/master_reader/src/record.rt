@@ -1,6 +1,6 @@
 //! Records, and the lists that they are made of.
 
-use addr_bits::{Bytes, Items};
+use addr_bits::{Address, Bytes, Items};
 use dns_name::Name;
 
 /// The strings of a TXT record (RFC 1035, section 3.3.14).
@@ -29,6 +29,22 @@ pub enum Body {
 
     /// A record of a type that is passed over.
     Other,
+}
+
+impl Body {
+    ghost use Rattle.std.specs.Prelude.{◌≡◌};
+    ghost use Rattle.master_reader.specs.Data.{address_in};
+
+    /// The address that the record has, if it is of a type that has one.
+    pub fn address(&self) -> Option<Address>
+        ensures { result ≡ address_in self.now }
+    {
+        match self {
+            Body::A(number) => Some(Address::V4(*number)),
+            Body::Aaaa(number) => Some(Address::V6(*number)),
+            _ => None,
+        }
+    }
 }
 
 /// A record: the name at which it stands, and what it says.

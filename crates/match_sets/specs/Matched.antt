@@ -1,6 +1,9 @@
 -- The addresses that agree with a record of an answer.
 use Rattle.std.specs.Prelude.{ℕ, ◌==◌, Bool, false, Option, Some, None}
 use Rattle.std.specs.List.{list_any}
+use Rattle.addr_bits.specs.Address.{bits_of}
+use Rattle.addr_bits.specs.declared.address.Family.{Family}
+use Rattle.addr_bits.specs.declared.address.Family.TheVariants.{V4, V6}
 use Rattle.addr_bits.specs.Width.{cut_of}
 use Rattle.master_reader.specs.declared.record.Body.{Body}
 use Rattle.master_reader.specs.declared.record.Body.TheVariants.{A, Aaaa}
@@ -11,20 +14,20 @@ use Rattle.zone_answers.specs.Answers.{answer_bodies}
 abbrev pub agrees : (bits len host a : ℕ) → Bool
 agrees bits len host a = cut_of bits a len == cut_of bits host len
 
+-- RFC 1035, 3.4.1, and RFC 3596, 2.2: the number of the address that a record has, if it is of the family
+abbrev pub host_in : Family → Body → Option ℕ
+host_in V4 (A host) = Some host
+host_in V6 (Aaaa host) = Some host
+host_in f _ = None
+
 -- the host agrees, if there is one
 abbrev pub host_agrees : (bits len : ℕ) → Option ℕ → (a : ℕ) → Bool
 host_agrees bits len None a = false
 host_agrees bits len (Some host) a = agrees bits len host a
 
--- RFC 7208, section 5.3: an A record (RFC 1035, 3.4.1) whose address agrees
-abbrev pub matches4 : (len a : ℕ) → Body → Bool
-matches4 len a (A host) = agrees 32 len host a
-matches4 len a _ = false
-
--- RFC 7208, section 5.3: an AAAA record (RFC 3596, 2.2) whose address agrees
-abbrev pub matches6 : (len a : ℕ) → Body → Bool
-matches6 len a (Aaaa host) = agrees 128 len host a
-matches6 len a _ = false
+-- RFC 7208, section 5.3: a record that has an address of the family, which agrees
+abbrev pub matches : Family → (len a : ℕ) → Body → Bool
+matches f len a body = host_agrees (bits_of f) len (host_in f body) a
 
 -- RFC 7208, section 5.3: some record of the answer matches
 abbrev pub is_matched : (Body → Bool) → Answer → Bool

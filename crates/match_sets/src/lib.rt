@@ -5,4 +5,4 @@ mod sets;
 #[cfg(test)]
 mod tests;
 
-pub use sets::{match4, match6};
+pub use sets::{match_family, match4, match6};

@@ -6,9 +6,9 @@ use Rattle.std.proofs.lemmas.Bool.{and_parts}
 use Rattle.std.proofs.lemmas.List.Folds.{list_all-append}
 use Rattle.std.proofs.lemmas.List.Sums.{length-filter}
 use Rattle.addr_bits.specs.Prefix.{Cidr, IsCidr}
-use Rattle.addr_bits.specs.Ip4.{SpellsIp4, ip4_text}
-use Rattle.addr_bits.specs.Ip6.{SpellsIp6, ip6_text}
-use Rattle.addr_bits.specs.declared.address.Family.{Family}
+use Rattle.addr_bits.specs.declared.address.Family.TheVariants.{V4, V6}
+use Rattle.addr_bits.specs.Ip4.{ip4_text}
+use Rattle.addr_bits.specs.Ip6.{ip6_text}
 use Rattle.addr_bits.proofs.Texts.{written_address}
 use Rattle.dns_name.specs.Name.{is_dot}
 use Rattle.dns_name.specs.Parts.{without_final}
@@ -27,6 +27,7 @@ use Rattle.spf_grammar.specs.declared.flat.FlatTerm.{FlatTerm}
 use Rattle.spf_grammar.specs.declared.flat.Net.{Net}
 use Rattle.spf_grammar.specs.declared.flat.Net.TheVariants as net
 use Rattle.spf_grammar.specs.declared.verdict.Verdict.{Verdict}
+use Rattle.spf_grammar.proofs.WrittenForm.{network_spelled}
 use Rattle.spf_grammar.specs.declared.verdict.Verdict.TheVariants.{Fail, SoftFail, Pass, Neutral}
 use Rattle.spf_grammar.specs.declared.policy.Term.{Term}
 use Rattle.spf_grammar.specs.declared.policy.Term.TheVariants.{Directive}
@@ -37,29 +38,9 @@ use Rattle.published_records.specs.Chain.{next_redirect, RecordsSpell, RecordsLe
 
 -- ---- flat terms
 
-len_spelled : (most len : ℕ) → len ≤ most → SpellsLen (codes "/") most (written_len (codes "/") most len) len
-len_spelled most len within = by_test (len == most) refl
-  where
-    by_test : (t : Bool) → (len == most) ≡ t → SpellsLen (codes "/") most (written_len (codes "/") most len) len
-    by_test true e = inl (ap (λ b. cond b [] (codes "/" ++ decimal len)) e, eqb-true len most e)
-    by_test false e = inr (within, ap (λ b. cond b [] (codes "/" ++ decimal len)) e)
-
-network_spelled : (Spells : List ℕ → ℕ → Type 0) (bits : ℕ) (text_of : ℕ → List ℕ) (p : Cidr) → ((a : ℕ) → a < 2 ^ bits → Spells (text_of a) a)
-    → IsCidr bits p → SpellsNetwork Spells bits p (58 ∷ (text_of p.start ++ written_len (codes "/") bits p.len))
-network_spelled Spells bits text_of p written h = record {
-  network = text_of p.start;
-  after = written_len (codes "/") bits p.len;
-  address = p.start;
-  len = p.len;
-  spells = written p.start h.within;
-  short = len_spelled bits p.len h.short;
-  is_prefix = ap (λ s. record { start = s; len = p.len }) (sym h.cut);
-  whole = refl;
-}
-
 net_spelled : (n : Net) → HasPrefix n → SpellsMechanism (written_net n) (mechanism_of n)
-net_spelled (net.V4 p) h = (codes "ip4", 58 ∷ (ip4_text p.start ++ written_len (codes "/") 32 p.len), refl, network_spelled SpellsIp4 32 ip4_text p written_address.written4 h, refl)
-net_spelled (net.V6 p) h = (codes "ip6", 58 ∷ (ip6_text p.start ++ written_len (codes "/") 128 p.len), refl, network_spelled SpellsIp6 128 ip6_text p written_address.written6 h, refl)
+net_spelled (net.V4 p) h = (codes "ip4", 58 ∷ (ip4_text p.start ++ written_len (codes "/") 32 p.len), refl, network_spelled written_address V4 p h, refl)
+net_spelled (net.V6 p) h = (codes "ip6", 58 ∷ (ip6_text p.start ++ written_len (codes "/") 128 p.len), refl, network_spelled written_address V6 p h, refl)
 net_spelled net.All h = refl
 
 qualifier_spelled : (v : Verdict) → SpellsQualifier (written_qualifier v) v

@@ -1,6 +1,7 @@
 -- What a family sees of a list decides for its addresses.
 use Rattle.std.proofs.Common.{ℕ, ◌≡◌, ◌-◌, ◌*◌, ◌/◌, ◌^◌, ◌==◌, cond, [], ◌∷◌, inl, inr, refl, sym, ◌∙◌, ap, ap₂, pow_pos, mul-div_cancel}
 use Rattle.std.proofs.lemmas.Bool.Decides.{eqb_tells}
+use Rattle.addr_bits.specs.Address.{address_of}
 use Rattle.addr_bits.specs.Width.{cut_of}
 use Rattle.addr_bits.specs.Prefix.{Cidr, IsCidr}
 use Rattle.addr_bits.specs.declared.address.Family.{Family}
@@ -10,7 +11,7 @@ use Rattle.spf_grammar.specs.declared.flat.Net.TheVariants.{V4 as Net4, V6 as Ne
 use Rattle.spf_grammar.specs.Flat.{agrees, covers}
 use Rattle.spf_grammar.specs.FirstMatch.{reaches}
 use Rattle.spf_grammar.specs.Lists.{reach}
-use Rattle.spf_grammar.specs.Families.{HasPrefix, address_of, FirstIsSeen}
+use Rattle.spf_grammar.specs.Families.{HasPrefix, FirstIsSeen}
 
 -- two tests that are true together
 same_test : (m n p q : ℕ) → (m ≡ n → p ≡ q) → (p ≡ q → m ≡ n) → (m == n) ≡ (p == q)

@@ -10,6 +10,9 @@ use Rattle.spf_macros.specs.Grammar.{SpellsDomainSpec}
 use Rattle.spf_macros.specs.Reading.{Reads, Pauses, IsSpan}
 use Rattle.spf_macros.proofs.OneReading.{tails}
 use Rattle.spf_macros.proofs.Spans.{one_span}
+use Rattle.addr_bits.specs.declared.address.Family.{Family}
+use Rattle.addr_bits.specs.Address.{bits_of, SpellsIn}
+use Rattle.addr_bits.proofs.Texts.{one_address}
 use Rattle.addr_bits.specs.Prefix.{Cidr, cidr_of}
 use Rattle.addr_bits.specs.Laws.{is_address_byte}
 use Rattle.spf_grammar.specs.declared.hosts.Hosts.{Hosts}
@@ -154,30 +157,30 @@ no_optional text some none (Some spec) h = none spec h
 
 -- ---- networks
 
-network_cut : (Spells : List ℕ → ℕ → Type 0) (bits : ℕ) (p : Cidr) (text rest address after : List ℕ) → ((t : List ℕ) (a : ℕ) → Spells t a → list_all is_address_byte t ≡ true)
-    → text ≡ 58 ∷ rest → IsSpan is_no_slash rest address after → (h : SpellsNetwork Spells bits p text) → (h.network ≡ address) × (h.after ≡ after)
-network_cut Spells bits p text rest address after bytes e s h =
+network_cut : (f : Family) (p : Cidr) (text rest address after : List ℕ) → text ≡ 58 ∷ rest → IsSpan is_no_slash rest address after
+    → (h : SpellsNetwork f p text) → (h.network ≡ address) × (h.after ≡ after)
+network_cut f p text rest address after e s h =
     one_span is_no_slash h.network address h.after after
-    (weaker is_address_byte is_no_slash (keeps_out is_address_byte 47 refl) h.network (bytes h.network h.address h.spells)) s.passes (pauses h.after h.short) s.pauses
+    (weaker is_address_byte is_no_slash (keeps_out is_address_byte 47 refl) h.network (one_address.bytes f h.network h.address h.spells)) s.passes (pauses h.after h.short) s.pauses
     (tails (sym h.whole ∙ e) ∙ s.whole)
   where
-    pauses : (t : List ℕ) → SpellsLen (codes "/") bits t h.len → Pauses is_no_slash t
+    pauses : (t : List ℕ) → SpellsLen (codes "/") (bits_of f) t h.len → Pauses is_no_slash t
     pauses t (inl k) = subst (λ x. Pauses is_no_slash x) (sym k.0) tt
     pauses t (inr k) = subst (λ x. Pauses is_no_slash x) (sym k.1) refl
 
-pub no_address : (Spells : List ℕ → ℕ → Type 0) (bits : ℕ) (text rest address after : List ℕ) → ((t : List ℕ) (a : ℕ) → Spells t a → list_all is_address_byte t ≡ true)
-    → text ≡ 58 ∷ rest → IsSpan is_no_slash rest address after → ((a : ℕ) → ¬ Spells address a) → (p : Cidr) → SpellsNetwork Spells bits p text → ⊥
-no_address Spells bits text rest address after bytes e s none p h =
-    none h.address (subst (λ t. Spells t h.address) (network_cut Spells bits p text rest address after bytes e s h).0 h.spells)
+pub no_address : (f : Family) (text rest address after : List ℕ) → text ≡ 58 ∷ rest → IsSpan is_no_slash rest address after
+    → ((a : ℕ) → ¬ SpellsIn f address a) → (p : Cidr) → SpellsNetwork f p text → ⊥
+no_address f text rest address after e s none p h =
+    none h.address (subst (λ t. SpellsIn f t h.address) (network_cut f p text rest address after e s h).0 h.spells)
 
-pub no_network_len : (Spells : List ℕ → ℕ → Type 0) (bits : ℕ) (text rest address after : List ℕ) → ((t : List ℕ) (a : ℕ) → Spells t a → list_all is_address_byte t ≡ true)
-    → text ≡ 58 ∷ rest → IsSpan is_no_slash rest address after → ((len : ℕ) → ¬ SpellsLen (codes "/") bits after len) → (p : Cidr) → SpellsNetwork Spells bits p text → ⊥
-no_network_len Spells bits text rest address after bytes e s none p h =
-    none h.len (subst (λ t. SpellsLen (codes "/") bits t h.len) (network_cut Spells bits p text rest address after bytes e s h).1 h.short)
+pub no_network_len : (f : Family) (text rest address after : List ℕ) → text ≡ 58 ∷ rest → IsSpan is_no_slash rest address after
+    → ((len : ℕ) → ¬ SpellsLen (codes "/") (bits_of f) after len) → (p : Cidr) → SpellsNetwork f p text → ⊥
+no_network_len f text rest address after e s none p h =
+    none h.len (subst (λ t. SpellsLen (codes "/") (bits_of f) t h.len) (network_cut f p text rest address after e s h).1 h.short)
 
-pub network_read : (Spells : List ℕ → ℕ → Type 0) (bits : ℕ) (p : Cidr) (text rest address after : List ℕ) (a len : ℕ) → text ≡ 58 ∷ rest → IsSpan is_no_slash rest address after
-    → Spells address a → SpellsLen (codes "/") bits after len → p ≡ cidr_of bits len a → SpellsNetwork Spells bits p text
-network_read Spells bits p text rest address after a len e s spells short is = record {
+pub network_read : (f : Family) (p : Cidr) (text rest address after : List ℕ) (a len : ℕ) → text ≡ 58 ∷ rest → IsSpan is_no_slash rest address after
+    → SpellsIn f address a → SpellsLen (codes "/") (bits_of f) after len → p ≡ cidr_of (bits_of f) len a → SpellsNetwork f p text
+network_read f p text rest address after a len e s spells short is = record {
   network = address;
   after = after;
   address = a;

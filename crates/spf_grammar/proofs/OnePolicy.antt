@@ -8,8 +8,10 @@ use Rattle.std.specs.List.{list_all}
 use Rattle.std.specs.Char.{is_ascii_alphabetic, to_ascii_lowercase}
 use Rattle.std.specs.Str.{str_to_ascii_lowercase}
 use Rattle.addr_bits.specs.Prefix.{Cidr}
-use Rattle.addr_bits.specs.Ip4.{SpellsIp4}
-use Rattle.addr_bits.specs.Ip6.{SpellsIp6}
+use Rattle.addr_bits.specs.declared.address.Family.{Family}
+use Rattle.addr_bits.specs.declared.address.Family.TheVariants.{V4, V6}
+use Rattle.addr_bits.specs.Address.{bits_of}
+use Rattle.addr_bits.proofs.Families.{few_bits}
 use Rattle.addr_bits.specs.Laws.{OneAddress, is_address_byte}
 use Rattle.spf_macros.specs.declared.piece.Letter.{Letter}
 use Rattle.spf_macros.specs.declared.piece.Letter.TheVariants.{S, L, O, D, I, P, H, V, C, R, T}
@@ -353,10 +355,10 @@ same_term one (Directive v (Ptr a)) (Directive w (Ptr b)) mark rest h g name num
     let spec = one_target rest a b h.1 g.1 in
     (λ i. Directive (one_verdict mark v w h.0 g.0 i) (Ptr (spec i)))
 same_term one (Directive v (Ip4 p)) (Directive w (Ip4 q)) mark rest h g name numbered =
-    let net = one_network SpellsIp4 32 rest p q (lit≤ tt) one.one4 one.bytes4 h.1 g.1 in
+    let net = one_network one V4 rest p q h.1 g.1 in
     (λ i. Directive (one_verdict mark v w h.0 g.0 i) (Ip4 (net i)))
 same_term one (Directive v (Ip6 p)) (Directive w (Ip6 q)) mark rest h g name numbered =
-    let net = one_network SpellsIp6 128 rest p q (lit≤ tt) one.one6 one.bytes6 h.1 g.1 in
+    let net = one_network one V6 rest p q h.1 g.1 in
     (λ i. Directive (one_verdict mark v w h.0 g.0 i) (Ip6 (net i)))
 same_term one (Redirect a) (Redirect b) mark rest h g name numbered = ap Redirect (one_behind false rest a b h.1 g.1)
 same_term one (Exp a) (Exp b) mark rest h g name numbered = ap Exp (one_behind true rest a b h.1 g.1)
@@ -439,11 +441,10 @@ target_no_space text (Some spec) h = ap (list_all no_space) h.2 ∙ text_no_spac
 len_no_space : (s : List ℕ) (most : ℕ) (text : List ℕ) (len : ℕ) → most ≤ 128 → list_all is_len_byte s ≡ true → SpellsLen s most text len → list_all no_space text ≡ true
 len_no_space s most text len small slash h = weaker is_len_byte no_space (keeps_out is_len_byte 32 refl) text (lens_bytes s most text len small slash h)
 
-network_no_space : (Spells : List ℕ → ℕ → Type 0) (bits : ℕ) (p : Cidr) (text : List ℕ) → bits ≤ 128 → ((t : List ℕ) (a : ℕ) → Spells t a → list_all is_address_byte t ≡ true)
-    → SpellsNetwork Spells bits p text → list_all no_space text ≡ true
-network_no_space Spells bits p text small bytes h = ap (list_all no_space) h.whole
-    ∙ both_no_space h.network h.after (weaker is_address_byte no_space (keeps_out is_address_byte 32 refl) h.network (bytes h.network h.address h.spells))
-    (len_no_space (codes "/") bits h.after h.len small refl h.short)
+network_no_space : OneAddress → (f : Family) (p : Cidr) (text : List ℕ) → SpellsNetwork f p text → list_all no_space text ≡ true
+network_no_space one f p text h = ap (list_all no_space) h.whole
+    ∙ both_no_space h.network h.after (weaker is_address_byte no_space (keeps_out is_address_byte 32 refl) h.network (one.bytes f h.network h.address h.spells))
+    (len_no_space (codes "/") (bits_of f) h.after h.len (few_bits f) refl h.short)
 
 hosts_no_space : (spec : Option (List Piece)) (l m : ℕ) (text : List ℕ) → SpellsHosts spec l m text → list_all no_space text ≡ true
 hosts_no_space spec l m text h = ap (list_all no_space) h.whole ∙ both_no_space h.target (h.after4 ++ h.after6) (target_no_space h.target spec h.hosts)
@@ -455,8 +456,8 @@ behind_no_space one (Directive v (Include spec)) mark rest h = target_no_space r
 behind_no_space one (Directive v (A spec l m)) mark rest h = hosts_no_space spec l m rest h.1
 behind_no_space one (Directive v (Mx spec l m)) mark rest h = hosts_no_space spec l m rest h.1
 behind_no_space one (Directive v (Ptr spec)) mark rest h = target_no_space rest spec h.1
-behind_no_space one (Directive v (Ip4 p)) mark rest h = network_no_space SpellsIp4 32 p rest (lit≤ tt) one.bytes4 h.1
-behind_no_space one (Directive v (Ip6 p)) mark rest h = network_no_space SpellsIp6 128 p rest (lit≤ tt) one.bytes6 h.1
+behind_no_space one (Directive v (Ip4 p)) mark rest h = network_no_space one V4 p rest h.1
+behind_no_space one (Directive v (Ip6 p)) mark rest h = network_no_space one V6 p rest h.1
 behind_no_space one (Directive v (Exists spec)) mark rest h = target_no_space rest (Some spec) h.1
 behind_no_space one (Redirect spec) mark rest h = ap (list_all no_space) h.1.2 ∙ text_no_space h.1.0 spec (spec_spelled false h.1.0 spec h.1.1)
 behind_no_space one (Exp spec) mark rest h = ap (list_all no_space) h.1.2 ∙ text_no_space h.1.0 spec (spec_spelled true h.1.0 spec h.1.1)

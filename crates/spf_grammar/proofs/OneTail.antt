@@ -7,8 +7,11 @@ use Rattle.std.specs.Prelude.{◌==◌, codes, decimal}
 use Rattle.std.specs.Char.{is_ascii_digit}
 use Rattle.std.specs.List.{list_all}
 use Rattle.std.specs.Str.Parse.{digits_value}
+use Rattle.addr_bits.specs.declared.address.Family.{Family}
+use Rattle.addr_bits.specs.Address.{bits_of, SpellsIn}
+use Rattle.addr_bits.proofs.Families.{few_bits}
 use Rattle.addr_bits.specs.Prefix.{Cidr, cidr_of}
-use Rattle.addr_bits.specs.Laws.{is_address_byte}
+use Rattle.addr_bits.specs.Laws.{OneAddress, is_address_byte}
 use Rattle.spf_macros.specs.declared.piece.Macro.{Macro}
 use Rattle.spf_macros.specs.declared.piece.Piece.{Piece}
 use Rattle.spf_macros.specs.declared.piece.Piece.TheVariants.{Literal, Percent, Space, Percent20, Expand}
@@ -224,14 +227,12 @@ one_len most text m n small (inr h) (inr g) =
     decimal_once m n (len_fits m (omega (arith, small, h.0))) (len_fits n (omega (arith, small, g.0))) (tails (sym h.1 ∙ g.1))
 
 -- a network is read in one way
-pub one_network : (Spells : List ℕ → ℕ → Type 0) (bits : ℕ) (text : List ℕ) (p q : Cidr) → bits ≤ 128
-    → ((t : List ℕ) (a b : ℕ) → Spells t a → Spells t b → a ≡ b) → ((t : List ℕ) (a : ℕ) → Spells t a → list_all is_address_byte t ≡ true)
-    → SpellsNetwork Spells bits p text → SpellsNetwork Spells bits q text → p ≡ q
-one_network Spells bits text p q small one bytes h g =
-    let pauses : (t : List ℕ) (len : ℕ) → SpellsLen (codes "/") bits t len → Pauses is_address_byte t =
+pub one_network : OneAddress → (f : Family) (text : List ℕ) (p q : Cidr) → SpellsNetwork f p text → SpellsNetwork f q text → p ≡ q
+one_network law f text p q h g =
+    let pauses : (t : List ℕ) (len : ℕ) → SpellsLen (codes "/") (bits_of f) t len → Pauses is_address_byte t =
     λ t len s. elim s [ inl e ↦ subst (λ x. Pauses is_address_byte x) (sym e.0) tt | inr e ↦ subst (λ x. Pauses is_address_byte x) (sym e.1) refl ] in
-    let parts = one_span is_address_byte h.network g.network h.after g.after (bytes h.network h.address h.spells) (bytes g.network g.address g.spells)
+    let parts = one_span is_address_byte h.network g.network h.after g.after (law.bytes f h.network h.address h.spells) (law.bytes f g.network g.address g.spells)
     (pauses h.after h.len h.short) (pauses g.after g.len g.short) (tails (sym h.whole ∙ g.whole)) in
-    let address : h.address ≡ g.address = one g.network h.address g.address (subst (λ t. Spells t h.address) parts.0 h.spells) g.spells in
-    let len : h.len ≡ g.len = one_len bits g.after h.len g.len small (subst (λ t. SpellsLen (codes "/") bits t h.len) parts.1 h.short) g.short in
-    h.is_prefix ∙ ap (λ a. cidr_of bits h.len a) address ∙ ap (λ l. cidr_of bits l g.address) len ∙ sym g.is_prefix
+    let address : h.address ≡ g.address = law.one f g.network h.address g.address (subst (λ t. SpellsIn f t h.address) parts.0 h.spells) g.spells in
+    let len : h.len ≡ g.len = one_len (bits_of f) g.after h.len g.len (few_bits f) (subst (λ t. SpellsLen (codes "/") (bits_of f) t h.len) parts.1 h.short) g.short in
+    h.is_prefix ∙ ap (λ a. cidr_of (bits_of f) h.len a) address ∙ ap (λ l. cidr_of (bits_of f) l g.address) len ∙ sym g.is_prefix

@@ -9,9 +9,12 @@ use Rattle.std.specs.Prelude.{◌==◌, codes, decimal, flat_map}
 use Rattle.std.specs.List.{list_all}
 use Rattle.std.specs.Char.{is_ascii_alphabetic, to_ascii_lowercase}
 use Rattle.std.specs.Str.{str_to_ascii_lowercase}
-use Rattle.addr_bits.specs.Prefix.{Cidr, cidr_of}
-use Rattle.addr_bits.specs.Ip4.{SpellsIp4, ip4_text}
-use Rattle.addr_bits.specs.Ip6.{SpellsIp6, ip6_text}
+use Rattle.addr_bits.specs.Prefix.{Cidr, IsCidr}
+use Rattle.addr_bits.specs.declared.address.Family.{Family}
+use Rattle.addr_bits.specs.declared.address.Family.TheVariants.{V4, V6}
+use Rattle.addr_bits.specs.Address.{bits_of, text_in}
+use Rattle.addr_bits.specs.Ip4.{ip4_text}
+use Rattle.addr_bits.specs.Ip6.{ip6_text}
 use Rattle.addr_bits.specs.Laws.{WrittenAddress}
 use Rattle.spf_macros.specs.declared.piece.Piece.{Piece}
 use Rattle.spf_macros.specs.declared.piece.Piece.TheVariants.{Literal}
@@ -61,16 +64,19 @@ target_written : (text : List ℕ) (spec : Option (List Piece)) → SpellsTarget
 target_written text None h = refl
 target_written text (Some spec) h = (written spec, spec_written false h.0 spec h.1, refl)
 
-len_written : (slash : List ℕ) (most : ℕ) (text : List ℕ) (len : ℕ) → SpellsLen slash most text len → SpellsLen slash most (written_len slash most len) len
-len_written slash most text len h = by_test (len == most) refl
+pub len_spelled : (slash : List ℕ) (most len : ℕ) → len ≤ most → SpellsLen slash most (written_len slash most len) len
+len_spelled slash most len within = by_test (len == most) refl
   where
-    within : SpellsLen slash most text len → len ≤ most
-    within (inl g) = omega (arith, g.1)
-    within (inr g) = g.0
-
     by_test : (t : Bool) → (len == most) ≡ t → SpellsLen slash most (written_len slash most len) len
     by_test true e = inl (ap (λ b. cond b [] (slash ++ decimal len)) e, eqb-true len most e)
-    by_test false e = inr (within h, ap (λ b. cond b [] (slash ++ decimal len)) e)
+    by_test false e = inr (within, ap (λ b. cond b [] (slash ++ decimal len)) e)
+
+len_within : (slash : List ℕ) (most : ℕ) (text : List ℕ) (len : ℕ) → SpellsLen slash most text len → len ≤ most
+len_within slash most text len (inl g) = omega (arith, g.1)
+len_within slash most text len (inr g) = g.0
+
+len_written : (slash : List ℕ) (most : ℕ) (text : List ℕ) (len : ℕ) → SpellsLen slash most text len → SpellsLen slash most (written_len slash most len) len
+len_written slash most text len h = len_spelled slash most len (len_within slash most text len h)
 
 hosts_written : (text : List ℕ) (spec : Option (List Piece)) (l m : ℕ) → SpellsHosts spec l m text → SpellsHosts spec l m (written_hosts spec l m)
 hosts_written text spec l m h = record {
@@ -83,22 +89,22 @@ hosts_written text spec l m h = record {
   whole = refl;
 }
 
-network_written : WrittenAddress → (Spells : List ℕ → ℕ → Type 0) (bits : ℕ) (text_of : ℕ → List ℕ) (p : Cidr) (text : List ℕ)
-    → ((t : List ℕ) (a : ℕ) → Spells t a → a < 2 ^ bits) → ((a : ℕ) → a < 2 ^ bits → Spells (text_of a) a)
-    → SpellsNetwork Spells bits p text → SpellsNetwork Spells bits p (58 ∷ (text_of p.start ++ written_len (codes "/") bits p.len))
-network_written laws Spells bits text_of p text below spelled h =
-    let start : p.start < 2 ^ bits = subst (λ q. q.start < 2 ^ bits) (sym h.is_prefix) (laws.start_below bits h.len h.address (below h.network h.address h.spells)) in
-    let len : p.len ≡ h.len = ap (λ q. q.len) h.is_prefix in
-    record {
-      network = text_of p.start;
-      after = written_len (codes "/") bits p.len;
-      address = p.start;
-      len = p.len;
-      spells = spelled p.start start;
-      short = len_written (codes "/") bits h.after p.len (subst (λ n. SpellsLen (codes "/") bits h.after n) (sym len) h.short);
-      is_prefix = subst (λ q. q ≡ cidr_of bits q.len q.start) (sym h.is_prefix) (sym (laws.prefix_again bits h.len h.address));
-      whole = refl;
-    }
+pub network_spelled : WrittenAddress → (f : Family) (p : Cidr) → IsCidr (bits_of f) p → SpellsNetwork f p (58 ∷ (text_in f p.start ++ written_len (codes "/") (bits_of f) p.len))
+network_spelled laws f p h = record {
+  network = text_in f p.start;
+  after = written_len (codes "/") (bits_of f) p.len;
+  address = p.start;
+  len = p.len;
+  spells = laws.written f p.start h.within;
+  short = len_spelled (codes "/") (bits_of f) p.len h.short;
+  is_prefix = ap (λ s. record { start = s; len = p.len }) (sym h.cut);
+  whole = refl;
+}
+
+network_written : WrittenAddress → (f : Family) (p : Cidr) (text : List ℕ) → SpellsNetwork f p text → SpellsNetwork f p (58 ∷ (text_in f p.start ++ written_len (codes "/") (bits_of f) p.len))
+network_written laws f p text h =
+    let within : h.len ≤ bits_of f = len_within (codes "/") (bits_of f) h.after h.len h.short in
+    network_spelled laws f p (subst (IsCidr (bits_of f)) (sym h.is_prefix) (laws.prefix_is (bits_of f) h.len h.address within (laws.below f h.network h.address h.spells)))
 
 mechanism_written : WrittenAddress → (text : List ℕ) (m : Mechanism) → SpellsMechanism text m → SpellsMechanism (written_mechanism m) m
 mechanism_written laws text All h = refl
@@ -106,20 +112,8 @@ mechanism_written laws text (Include spec) h = (codes "include", written_target 
 mechanism_written laws text (A spec l m) h = (codes "a", written_hosts spec l m, refl, hosts_written h.1 spec l m h.3, refl)
 mechanism_written laws text (Mx spec l m) h = (codes "mx", written_hosts spec l m, refl, hosts_written h.1 spec l m h.3, refl)
 mechanism_written laws text (Ptr spec) h = (codes "ptr", written_target spec, refl, target_written h.1 spec h.3, refl)
-mechanism_written laws text (Ip4 p) h = (
-  codes "ip4",
-  58 ∷ (ip4_text p.start ++ written_len (codes "/") 32 p.len),
-  refl,
-  network_written laws SpellsIp4 32 ip4_text p h.1 (λ t a s. s.0) (λ a below. (below, refl)) h.3,
-  refl,
-)
-mechanism_written laws text (Ip6 p) h = (
-  codes "ip6",
-  58 ∷ (ip6_text p.start ++ written_len (codes "/") 128 p.len),
-  refl,
-  network_written laws SpellsIp6 128 ip6_text p h.1 laws.below6 laws.written6 h.3,
-  refl,
-)
+mechanism_written laws text (Ip4 p) h = (codes "ip4", 58 ∷ (ip4_text p.start ++ written_len (codes "/") 32 p.len), refl, network_written laws V4 p h.1 h.3, refl)
+mechanism_written laws text (Ip6 p) h = (codes "ip6", 58 ∷ (ip6_text p.start ++ written_len (codes "/") 128 p.len), refl, network_written laws V6 p h.1 h.3, refl)
 mechanism_written laws text (Exists spec) h = (codes "exists", written_target (Some spec), refl, target_written h.1 (Some spec) h.3, refl)
 
 -- ---- terms and policies

@@ -4,8 +4,9 @@ use Rattle.std.specs.List.{list_all, list_any}
 use Rattle.std.specs.Char.{is_ascii_alphabetic, is_ascii_digit}
 use Rattle.std.specs.Str.{str_to_ascii_lowercase}
 use Rattle.addr_bits.specs.Prefix.{Cidr, cidr_of}
-use Rattle.addr_bits.specs.Ip4.{SpellsIp4}
-use Rattle.addr_bits.specs.Ip6.{SpellsIp6}
+use Rattle.addr_bits.specs.Address.{bits_of, SpellsIn}
+use Rattle.addr_bits.specs.declared.address.Family.{Family}
+use Rattle.addr_bits.specs.declared.address.Family.TheVariants.{V4, V6}
 use Rattle.spf_macros.specs.declared.piece.Piece.{Piece}
 use Rattle.spf_macros.specs.Grammar.{SpellsMacroText, SpellsDomainSpec}
 use Rattle.spf_macros.specs.Reading.{Reads}
@@ -46,14 +47,14 @@ pub record SpellsHosts (spec : Option (List Piece)) (len4 len6 : ℕ) (text : Li
   pub whole : text ≡ target ++ (after4 ++ after6)
 
 -- RFC 7208, section 12: ":" ip4-network [ ip4-cidr-length ], and the same of IPv6. A network is held as the prefix that it lies in
-pub record SpellsNetwork (Spells : List ℕ → ℕ → Type 0) (bits : ℕ) (p : Cidr) (text : List ℕ) : Type 0 where
+pub record SpellsNetwork (f : Family) (p : Cidr) (text : List ℕ) : Type 0 where
   pub network : List ℕ
   pub after : List ℕ
   pub address : ℕ
   pub len : ℕ
-  pub spells : Spells network address
-  pub short : SpellsLen (codes "/") bits after len
-  pub is_prefix : p ≡ cidr_of bits len address
+  pub spells : SpellsIn f network address
+  pub short : SpellsLen (codes "/") (bits_of f) after len
+  pub is_prefix : p ≡ cidr_of (bits_of f) len address
   pub whole : text ≡ 58 ∷ (network ++ after)
 
 -- RFC 7208, section 12: mechanism
@@ -63,8 +64,8 @@ SpellsMechanism text (Include spec) = SpellsWith (codes "include") (λ rest. Spe
 SpellsMechanism text (A spec len4 len6) = SpellsWith (codes "a") (SpellsHosts spec len4 len6) text
 SpellsMechanism text (Mx spec len4 len6) = SpellsWith (codes "mx") (SpellsHosts spec len4 len6) text
 SpellsMechanism text (Ptr spec) = SpellsWith (codes "ptr") (λ rest. SpellsTarget rest spec) text
-SpellsMechanism text (Ip4 p) = SpellsWith (codes "ip4") (SpellsNetwork SpellsIp4 32 p) text
-SpellsMechanism text (Ip6 p) = SpellsWith (codes "ip6") (SpellsNetwork SpellsIp6 128 p) text
+SpellsMechanism text (Ip4 p) = SpellsWith (codes "ip4") (SpellsNetwork V4 p) text
+SpellsMechanism text (Ip6 p) = SpellsWith (codes "ip6") (SpellsNetwork V6 p) text
 SpellsMechanism text (Exists spec) = SpellsWith (codes "exists") (λ rest. SpellsTarget rest (Some spec)) text
 
 -- RFC 7208, section 4.6.2: [ qualifier ]

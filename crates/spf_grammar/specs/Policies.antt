@@ -1,5 +1,6 @@
 -- The written form of a policy. Among its spellings, which is written is the project's own choice.
 use Rattle.std.specs.Prelude.{ℕ, List, [], ◌∷◌, ◌++◌, flat_map, codes, Option, Some, None}
+use Rattle.addr_bits.specs.declared.address.Family.TheVariants.{V4, V6}
 use Rattle.spf_macros.specs.declared.piece.Piece.{Piece}
 use Rattle.spf_macros.specs.Grammar.{written}
 use Rattle.spf_grammar.specs.declared.policy.Mechanism.{Mechanism}
@@ -7,7 +8,7 @@ use Rattle.spf_grammar.specs.declared.policy.Mechanism.TheVariants.{All, Include
 use Rattle.spf_grammar.specs.declared.policy.Term.{Term}
 use Rattle.spf_grammar.specs.declared.policy.Term.TheVariants.{Directive, Redirect, Exp, Unknown}
 use Rattle.spf_grammar.specs.declared.policy.Policy.{Policy}
-use Rattle.spf_grammar.specs.Written.{written_qualifier, written_len, written_ip4, written_ip6}
+use Rattle.spf_grammar.specs.Written.{written_qualifier, written_len, written_network}
 
 -- RFC 7208, section 12: [ ":" domain-spec ]
 abbrev pub written_target : Option (List Piece) → List ℕ
@@ -25,8 +26,8 @@ written_mechanism (Include spec) = codes "include" ++ written_target (Some spec)
 written_mechanism (A spec len4 len6) = codes "a" ++ written_hosts spec len4 len6
 written_mechanism (Mx spec len4 len6) = codes "mx" ++ written_hosts spec len4 len6
 written_mechanism (Ptr spec) = codes "ptr" ++ written_target spec
-written_mechanism (Ip4 p) = written_ip4 p
-written_mechanism (Ip6 p) = written_ip6 p
+written_mechanism (Ip4 p) = written_network V4 p
+written_mechanism (Ip6 p) = written_network V6 p
 written_mechanism (Exists spec) = codes "exists" ++ written_target (Some spec)
 
 -- RFC 7208, section 12: a directive without `+`, or a modifier

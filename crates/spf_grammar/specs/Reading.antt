@@ -3,8 +3,7 @@ use Rattle.std.specs.Prelude.{◌≡◌, ◌≢◌, ℕ, ◌≤◌, Bool, true, 
 use Rattle.std.specs.List.{list_all, list_any}
 use Rattle.std.specs.Char.{is_ascii_digit}
 use Rattle.addr_bits.specs.Prefix.{Cidr}
-use Rattle.addr_bits.specs.Ip4.{SpellsIp4}
-use Rattle.addr_bits.specs.Ip6.{SpellsIp6}
+use Rattle.addr_bits.specs.declared.address.Family.TheVariants.{V4, V6}
 use Rattle.spf_macros.specs.declared.piece.Piece.{Piece}
 use Rattle.spf_macros.specs.Grammar.{SpellsMacroText, SpellsDomainSpec}
 use Rattle.spf_macros.specs.Laws.{IsMacroText}
@@ -76,14 +75,6 @@ SpellsRequired text spec = SpellsTarget text (Some spec)
 abbrev pub SpellsAsHosts : List ℕ → Hosts → Type 0
 SpellsAsHosts text hosts = SpellsHosts hosts.target hosts.len4 hosts.len6 text
 
--- RFC 7208, section 12: ":" ip4-network [ ip4-cidr-length ]
-abbrev pub SpellsNetwork4 : List ℕ → Cidr → Type 0
-SpellsNetwork4 text p = SpellsNetwork SpellsIp4 32 p text
-
--- RFC 7208, section 12: ":" ip6-network [ ip6-cidr-length ]
-abbrev pub SpellsNetwork6 : List ℕ → Cidr → Type 0
-SpellsNetwork6 text p = SpellsNetwork SpellsIp6 128 p text
-
 -- a byte that ends no network
 abbrev pub is_no_slash : ℕ → Bool
 is_no_slash b = not (b == 47)
@@ -117,8 +108,8 @@ BehindMechanism (Include spec) rest = SpellsTarget rest (Some spec)
 BehindMechanism (A spec l m) rest = SpellsHosts spec l m rest
 BehindMechanism (Mx spec l m) rest = SpellsHosts spec l m rest
 BehindMechanism (Ptr spec) rest = SpellsTarget rest spec
-BehindMechanism (Ip4 p) rest = SpellsNetwork SpellsIp4 32 p rest
-BehindMechanism (Ip6 p) rest = SpellsNetwork SpellsIp6 128 p rest
+BehindMechanism (Ip4 p) rest = SpellsNetwork V4 p rest
+BehindMechanism (Ip6 p) rest = SpellsNetwork V6 p rest
 BehindMechanism (Exists spec) rest = SpellsTarget rest (Some spec)
 
 -- a mechanism of this name

@@ -1,7 +1,8 @@
 -- Written forms. Among the spellings of a term, which is written is the project's own choice.
 use Rattle.std.specs.Prelude.{ℕ, ◌==◌, List, [], ◌++◌, codes, decimal, if◌then◌else◌}
-use Rattle.addr_bits.specs.Ip4.{ip4_text}
-use Rattle.addr_bits.specs.Ip6.{ip6_text}
+use Rattle.addr_bits.specs.Address.{bits_of, text_in}
+use Rattle.addr_bits.specs.declared.address.Family.{Family}
+use Rattle.addr_bits.specs.declared.address.Family.TheVariants as family
 use Rattle.addr_bits.specs.Prefix.{Cidr}
 use Rattle.spf_grammar.specs.declared.verdict.Verdict.{Verdict}
 use Rattle.spf_grammar.specs.declared.verdict.Verdict.TheVariants.{Fail, SoftFail, Pass, Neutral}
@@ -20,18 +21,19 @@ written_qualifier Neutral = codes "?"
 abbrev pub written_len : (slash : List ℕ) (most len : ℕ) → List ℕ
 written_len slash most len = if len == most then [] else slash ++ decimal len
 
--- RFC 7208, section 5.6
-abbrev pub written_ip4 : Cidr → List ℕ
-written_ip4 p = codes "ip4:" ++ ip4_text p.start ++ written_len (codes "/") 32 p.len
+-- RFC 7208, section 5.6: the name of the mechanism that has the networks of a family
+abbrev pub network_word : Family → List ℕ
+network_word family.V4 = codes "ip4:"
+network_word family.V6 = codes "ip6:"
 
 -- RFC 7208, section 5.6
-abbrev pub written_ip6 : Cidr → List ℕ
-written_ip6 p = codes "ip6:" ++ ip6_text p.start ++ written_len (codes "/") 128 p.len
+abbrev pub written_network : Family → Cidr → List ℕ
+written_network f p = network_word f ++ text_in f p.start ++ written_len (codes "/") (bits_of f) p.len
 
 -- RFC 7208, sections 5.1 and 5.6: a network as the mechanism that has its addresses
 abbrev pub written_net : Net → List ℕ
-written_net (V4 p) = written_ip4 p
-written_net (V6 p) = written_ip6 p
+written_net (V4 p) = written_network family.V4 p
+written_net (V6 p) = written_network family.V6 p
 written_net All = codes "all"
 
 -- the written form of a flat term

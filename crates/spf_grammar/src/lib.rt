@@ -2,6 +2,7 @@
 #![tactic(auto)]
 
 mod bytes;
+mod families;
 mod flat;
 mod hosts;
 mod keywords;
@@ -20,6 +21,7 @@ mod verdict;
 mod writer;
 mod written;
 
+pub use families::NetworkFamily;
 pub use flat::{FlatTerm, Net, first};
 pub use laws::{first_of_each_family, one_policy, written_policy};
 pub use policy::{Mechanism, Policy, Term, Terms};

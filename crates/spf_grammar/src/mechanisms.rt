@@ -7,7 +7,7 @@ ghost use Rattle.spf_grammar.specs.Reading.{SpellsBehind};
 use crate::Mechanism;
 use crate::hosts::{read_hosts, read_optional_target, read_target};
 use crate::keywords::Keyword;
-use crate::networks::{read_network4, read_network6};
+use crate::networks::read_network;
 use std::alloc::{AllocError, Global};
 
 /// `all` has nothing behind its name (RFC 7208, section 5.1).
@@ -71,22 +71,6 @@ fn read_exists(alloc: Global, text: &[u8]) -> Result<Option<Mechanism>, AllocErr
     Ok(Some(Mechanism::Exists(target)))
 }
 
-/// What stands behind `ip4` (RFC 7208, section 5.6).
-fn read_ip4_network(text: &[u8]) -> Option<Mechanism>
-    ensures { Reads (SpellsBehind keyword.Ip4) text.now result }
-{
-    let network = read_network4(text)?;
-    Some(Mechanism::Ip4(network))
-}
-
-/// What stands behind `ip6` (RFC 7208, section 5.6).
-fn read_ip6_network(text: &[u8]) -> Option<Mechanism>
-    ensures { Reads (SpellsBehind keyword.Ip6) text.now result }
-{
-    let network = read_network6(text)?;
-    Some(Mechanism::Ip6(network))
-}
-
 /// The mechanism of a name, by what stands behind the name (RFC 7208, section 12).
 pub(crate) fn read_mechanism(
     alloc: Global,
@@ -101,8 +85,8 @@ pub(crate) fn read_mechanism(
         Keyword::A => read_address(alloc, text),
         Keyword::Mx => read_mx(alloc, text),
         Keyword::Ptr => read_ptr(alloc, text),
-        Keyword::Ip4 => Ok(read_ip4_network(text)),
-        Keyword::Ip6 => Ok(read_ip6_network(text)),
+        Keyword::Ip4 => Ok(read_network(text).map(Mechanism::Ip4)),
+        Keyword::Ip6 => Ok(read_network(text).map(Mechanism::Ip6)),
         Keyword::Exists => read_exists(alloc, text),
     }
 }

@@ -1,6 +1,6 @@
 //! SPF records as lists of terms.
 
-use crate::Verdict;
+use crate::{Net, Verdict};
 use addr_bits::{Bytes, Items, Prefix};
 use spf_macros::MacroText;
 
@@ -23,6 +23,23 @@ pub enum Mechanism {
     Ip6(Prefix<u128>),
     /// Every address, where a domain exists.
     Exists(MacroText),
+}
+
+impl Mechanism {
+    ghost use Rattle.std.specs.Prelude.{◌≡◌};
+    ghost use Rattle.spf_grammar.specs.Families.{network_of};
+
+    /// The network of `all`, `ip4` or `ip6` (RFC 7208, sections 5.1 and 5.6); `None` for each other mechanism.
+    pub fn net(&self) -> Option<Net>
+        ensures { result ≡ network_of self.now }
+    {
+        match self {
+            Mechanism::All => Some(Net::All),
+            Mechanism::Ip4(prefix) => Some(Net::V4(*prefix)),
+            Mechanism::Ip6(prefix) => Some(Net::V6(*prefix)),
+            _ => None,
+        }
+    }
 }
 
 /// A term of a record (RFC 7208, section 4.6.1).

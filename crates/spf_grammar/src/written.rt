@@ -1,10 +1,10 @@
 //! The written form of a flat term.
 ghost use Rattle.std.specs.Prelude.{◌≡◌, ◌++◌, ◌+◌, ◌≤◌, codes, length};
 ghost use Rattle.arrayvec.specs.ArrayString.{array_string_len};
-ghost use Rattle.spf_grammar.specs.Written.{written_qualifier, written_len, written_net, written_flat as flat_text};
+ghost use Rattle.spf_grammar.specs.Written.{written_qualifier, written_len, network_word, written_network, written_net, written_flat as flat_text};
 
 use crate::{FlatTerm, Net, Verdict};
-use addr_bits::{write_ip4, write_ip6};
+use addr_bits::{AddressFamily, Family, Prefix, Width};
 use arrayvec::ArrayString;
 use itoa::Buffer;
 
@@ -32,6 +32,27 @@ fn push_len(text: &mut ArrayString<48>, most: u8, len: u8)
     }
 }
 
+/// The name of the mechanism that has the networks of a family (RFC 7208, section 5.6).
+fn network_word(family: Family) -> &'static str
+    ensures text { result.now ≡ network_word family }
+    ensures short { length result.now ≡ 4 }
+{
+    match family {
+        Family::V4 => "ip4:",
+        Family::V6 => "ip6:",
+    }
+}
+
+/// Appends the network of a prefix.
+fn push_network<W: AddressFamily>(text: &mut ArrayString<48>, prefix: Prefix<W>)
+    requires { array_string_len text.old ≤ 1 }
+    ensures { text.new.bytes ≡ text.old.bytes ++ written_network W.family prefix }
+{
+    text.push_str(network_word(W::family()));
+    text.push_str(prefix.start().write().as_str());
+    push_len(text, W::BITS as u8, prefix.len() as u8);
+}
+
 /// Appends a network.
 fn push_net(text: &mut ArrayString<48>, net: Net)
     requires { array_string_len text.old ≤ 1 }
@@ -39,16 +60,8 @@ fn push_net(text: &mut ArrayString<48>, net: Net)
 {
     match net {
         Net::All => text.push_str("all"),
-        Net::V4(prefix) => {
-            text.push_str("ip4:");
-            text.push_str(write_ip4(prefix.start()).as_str());
-            push_len(text, 32, prefix.len() as u8);
-        }
-        Net::V6(prefix) => {
-            text.push_str("ip6:");
-            text.push_str(write_ip6(prefix.start()).as_str());
-            push_len(text, 128, prefix.len() as u8);
-        }
+        Net::V4(prefix) => push_network(text, prefix),
+        Net::V6(prefix) => push_network(text, prefix),
     }
 }
 

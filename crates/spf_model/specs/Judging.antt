@@ -5,6 +5,8 @@ use Rattle.addr_bits.specs.Prefix.{cidr_of}
 pub use Rattle.addr_bits.specs.Address.{family_of}
 use Rattle.addr_bits.specs.declared.address.Address.{Address}
 use Rattle.addr_bits.specs.declared.address.Address.TheVariants as address
+use Rattle.addr_bits.specs.declared.address.Family.{Family}
+use Rattle.addr_bits.specs.declared.address.Family.TheVariants as family
 use Rattle.dns_name.specs.declared.fault.NameFault.{NameFault}
 use Rattle.dns_name.specs.Name.{name_of_text}
 use Rattle.master_reader.specs.declared.record.Body.{Body}
@@ -14,6 +16,7 @@ use Rattle.zone_answers.specs.declared.answer.QKind.TheVariants as kind
 use Rattle.zone_answers.specs.declared.answer.Question.{Question}
 use Rattle.zone_answers.specs.declared.answer.Answer.{Answer}
 use Rattle.zone_answers.specs.declared.answer.Answer.TheVariants as answer
+use Rattle.zone_answers.specs.Answers.{kind_in}
 pub use Rattle.zone_answers.specs.Answers.{answer_bodies}
 use Rattle.spf_macros.specs.declared.piece.Piece.{Piece}
 use Rattle.spf_macros.specs.declared.expansion.Need.{Need}
@@ -165,12 +168,16 @@ is_found (answer.Found bodies) = true
 
 -- RFC 7208, section 5: the addresses of a name are asked for in the family of the address
 abbrev pub address_kind : Address → QKind
-address_kind (address.V4 a) = kind.A
-address_kind (address.V6 a) = kind.Aaaa
+address_kind a = kind_in (family_of a)
 
 -- RFC 7208, section 5: the question for the addresses of a name
 abbrev pub address_question : Address → Labels → Question
 address_question a name = record { name = name; kind = address_kind a }
+
+-- RFC 7208, section 5.6: of two lengths, the one for the addresses of a family
+abbrev pub len_in : Family → (len4 len6 : ℕ) → ℕ
+len_in family.V4 len4 len6 = len4
+len_in family.V6 len4 len6 = len6
 
 -- RFC 7208, sections 5.3 and 5.6: the address agrees with the record's in the first bits
 abbrev pub body_agrees : ℕ → ℕ → Address → Body → Bool

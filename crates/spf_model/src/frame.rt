@@ -10,7 +10,7 @@ ghost use Rattle.spf_model.specs.declared.outcome.Cause.TheVariants as cause;
 
 use crate::outcome::Halt;
 use crate::{Cause, Counts, Limits, Outcome, Place};
-use addr_bits::{Address, Bytes, Family};
+use addr_bits::{Address, Bytes};
 use dns_name::Name;
 use spf_macros::{Expanded, MacroText, Need, target};
 use std::alloc::{AllocError, Global};
@@ -38,16 +38,6 @@ pub fn cause_of(need: Need) -> Cause
         Need::Helo => Cause::Helo,
         Need::Reverse => Cause::Reverse,
         Need::Address => Cause::Address,
-    }
-}
-
-/// The family of an address.
-fn family_of(address: Address) -> Family
-    ensures { result ≡ judging.family_of address }
-{
-    match address {
-        Address::V4(_) => Family::V4,
-        Address::V6(_) => Family::V6,
     }
 }
 
@@ -136,7 +126,7 @@ impl Frame<'_> {
             domain.extend_from_slice(self.domain)?;
             return Ok(domain);
         };
-        match target(self.alloc, spec, family_of(self.address), self.domain)? {
+        match target(self.alloc, spec, self.address.family(), self.domain)? {
             Expanded::Out(text) => Ok(text),
             Expanded::Needs(need) => Err(self.open(cause_of(need), term)),
         }

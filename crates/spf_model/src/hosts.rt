@@ -11,7 +11,7 @@ ghost use Rattle.spf_grammar.specs.declared.policy.Mechanism.TheVariants as mech
 use crate::frame::Frame;
 use crate::outcome::Halt;
 use crate::{Cause, Counts};
-use addr_bits::{Address, Prefix};
+use addr_bits::{Address, Family, Prefix};
 use dns_name::Name;
 use master_reader::Body;
 use spf_macros::MacroText;
@@ -27,14 +27,23 @@ pub struct Lens {
     pub len6: u32,
 }
 
+impl Lens {
+    /// How many first bits of the addresses of a family must agree.
+    pub fn of(self, family: Family) -> u32
+        ensures { result ≡ judging.len_in family self.len4 self.len6 }
+    {
+        match family {
+            Family::V4 => self.len4,
+            Family::V6 => self.len6,
+        }
+    }
+}
+
 /// The kind of record that has the addresses of a name, in the family of the address.
 fn address_kind(address: Address) -> QKind
     ensures { result ≡ judging.address_kind address }
 {
-    match address {
-        Address::V4(_) => QKind::A,
-        Address::V6(_) => QKind::Aaaa,
-    }
+    QKind::of_addresses(address.family())
 }
 
 /// Whether there is no such name or no such record (RFC 7208, section 4.6.4).

@@ -1,11 +1,17 @@
 -- The mechanisms that ask for addresses, as walks.
-use Rattle.std.proofs.Common.{◌≡◌, ℕ, ◌<◌, ◌^◌, Bool, true, false, ◌||◌, List, [], ◌∷◌, map, length, refl, sym, ap, ◌∙◌, subst, Option, Some, None, Ok}
+use Rattle.std.proofs.Common.{◌≡◌, ℕ, ◌<◌, ◌≤◌, ◌^◌, Bool, true, false, ◌||◌, List, [], ◌∷◌, map, length, refl, sym, ap, ◌∙◌, subst, Option, Some, None, Ok}
 use Rattle.std.specs.Prelude.{nat_le, filter_map}
 use Rattle.std.specs.List.{flat_map, list_any}
 use Rattle.std.proofs.lemmas.List.Folds.{list_any-append}
+use mathlib.Core.Path.{fun_ext}
+use Rattle.addr_bits.specs.Address.{bits_of, address_of}
+use Rattle.addr_bits.specs.declared.address.Family.{Family}
+use Rattle.addr_bits.specs.declared.address.Family.TheVariants.{V4, V6}
 use Rattle.addr_bits.specs.Prefix.{Cidr}
 use Rattle.addr_bits.specs.declared.address.Address.{Address}
 use Rattle.master_reader.specs.declared.record.Body.{Body}
+use Rattle.master_reader.specs.declared.record.Body.TheVariants.{A, Aaaa}
+use Rattle.match_sets.specs.Matched.{matches, is_matched}
 use Rattle.zone_answers.specs.declared.answer.QKind.TheVariants as kind
 use Rattle.zone_answers.specs.declared.answer.Question.{Question}
 use Rattle.zone_answers.specs.declared.answer.Answer.{Answer}
@@ -19,7 +25,7 @@ use Rattle.spf_model.specs.declared.outcome.Counts.{Counts}
 use Rattle.spf_model.specs.declared.outcome.Outcome.TheVariants.{Perm, Unsettled}
 use Rattle.spf_model.specs.declared.outcome.Place.{Place}
 use Rattle.spf_model.specs.Run.{Run, Ends, Answering}
-use Rattle.spf_model.specs.Judging.{Site, at, counted, void_counted, go_if, ask, ask_all, address_question, match_hosts, match_exchanges, exchange_of, body_agrees, answer_bodies, some_agrees, is_void, is_found, naming}
+use Rattle.spf_model.specs.Judging.{Site, at, counted, void_counted, go_if, ask, ask_all, address_question, match_hosts, match_exchanges, exchange_of, len_in, body_agrees, answer_bodies, some_agrees, is_void, is_found, naming}
 use Rattle.spf_model.specs.Check.{unless_matched}
 use Rattle.symbolic_check.specs.declared.gathered.Gathered.{Gathered}
 use Rattle.symbolic_check.specs.declared.scene.Scene.{Scene}
@@ -86,6 +92,23 @@ all_walks : (bits : ℕ) (zones : Answering) (verdict : Verdict) (matches : Bool
     → StepsAt bits (λ a. after_match verdict matches) old new → Walks bits zones (match_stretch verdict (λ a. matches)) old new asked asked
 all_walks bits zones verdict matches old new asked steps =
     walks_by_steps bits zones (match_stretch verdict (λ a. matches)) (λ a. after_match verdict matches) old new asked (λ a s. match_moves zones asked verdict matches s) steps
+
+-- ---- the addresses of a family that agree
+
+host_agrees : (f : Family) (len4 len6 a : ℕ) (body : Body) → matches f (len_in f len4 len6) a body ≡ body_agrees len4 len6 (address_of f a) body
+host_agrees V4 len4 len6 a (A n) = refl
+host_agrees V4 len4 len6 a _ = refl
+host_agrees V6 len4 len6 a (Aaaa n) = refl
+host_agrees V6 len4 len6 a _ = refl
+
+pub hosts_agree : (f : Family) (len len4 len6 : ℕ) → len ≡ len_in f len4 len6 → (found : Answer) (a : ℕ)
+    → is_matched (matches f len a) found ≡ list_any (body_agrees len4 len6 (address_of f a)) (answer_bodies found)
+hosts_agree f len len4 len6 is found a =
+    ap (λ (test : Body → Bool). list_any test (answer_bodies found)) (fun_ext (λ body. ap (λ (k : ℕ). matches f k a body) is ∙ host_agrees f len4 len6 a body))
+
+pub len_fits : (f : Family) (len4 len6 : ℕ) → len4 ≤ 32 → len6 ≤ 128 → len_in f len4 len6 ≤ bits_of f
+len_fits V4 len4 len6 short4 short6 = short4
+len_fits V6 len4 len6 short4 short6 = short6
 
 -- ---- what a term makes of what it gathered
 

@@ -1,36 +1,27 @@
 -- A row of network terms as one step of the walk (the project's own form).
-use Rattle.std.specs.Prelude.{ℕ, Bool, true, false, List, [], ◌∷◌, Option, Some, None, if◌then◌else◌}
+use Rattle.std.specs.Prelude.{ℕ, Bool, true, false, List, [], ◌∷◌, Option, Some, None, is_some, if◌then◌else◌}
 use Rattle.addr_bits.specs.declared.address.Address.{Address}
 use Rattle.addr_bits.specs.Prefix.{Cidr}
 use Rattle.spf_grammar.specs.Flat.{agrees, covers}
-use Rattle.spf_grammar.specs.declared.flat.Net.TheVariants as net
+use Rattle.spf_grammar.specs.Families.{network_of}
+use Rattle.spf_grammar.specs.declared.flat.Net.{Net}
 use Rattle.spf_grammar.specs.declared.verdict.Verdict.{Verdict}
 use Rattle.spf_grammar.specs.declared.policy.Mechanism.{Mechanism}
-use Rattle.spf_grammar.specs.declared.policy.Mechanism.TheVariants.{All, Include, A, Mx, Ptr, Ip4, Ip6, Exists}
 use Rattle.spf_grammar.specs.declared.policy.Term.{Term}
 use Rattle.spf_grammar.specs.declared.policy.Term.TheVariants.{Directive, Redirect, Exp, Unknown}
 
 -- RFC 7208, sections 5.1 and 5.6: a mechanism that asks nothing and matches by the address alone
 abbrev pub is_network : Mechanism → Bool
-is_network (Ip4 p) = true
-is_network (Ip6 p) = true
-is_network All = true
-is_network (Include spec) = false
-is_network (A spec len4 len6) = false
-is_network (Mx spec len4 len6) = false
-is_network (Ptr spec) = false
-is_network (Exists spec) = false
+is_network mechanism = is_some (network_of mechanism)
+
+-- the network has the address, if there is one
+abbrev pub some_covers : Option Net → Address → Bool
+some_covers None a = false
+some_covers (Some net) a = covers net a
 
 -- RFC 7208, sections 5.1 and 5.6: it matches this address
 abbrev pub network_covers : Mechanism → Address → Bool
-network_covers (Ip4 p) a = covers (net.V4 p) a
-network_covers (Ip6 p) a = covers (net.V6 p) a
-network_covers All a = true
-network_covers (Include spec) a = false
-network_covers (A spec len4 len6) a = false
-network_covers (Mx spec len4 len6) a = false
-network_covers (Ptr spec) a = false
-network_covers (Exists spec) a = false
+network_covers mechanism a = some_covers (network_of mechanism) a
 
 -- a term that a row of networks may have: a directive with a network, or a modifier, which is passed over
 abbrev pub is_row_term : Term → Bool

@@ -1,4 +1,5 @@
 //! The outcome of every address, and what is asked on the way.
+ghost use Rattle.addr_bits.specs.Address.{address_of};
 ghost use Rattle.std.specs.Prelude.{IsOk, IfOk};
 ghost use Rattle.dns_name.specs.Name.{name_of_text};
 ghost use Rattle.spf_model.specs.Run.{says};
@@ -7,12 +8,12 @@ ghost use Rattle.symbolic_check.specs.Evaluation.{IsEvaluation};
 ghost use Rattle.symbolic_check.specs.Families.{AreEndsOf, run_at};
 
 use crate::asked::in_order;
-use crate::networks::FamilyWidth;
 use crate::scene::Scene;
 use crate::state::State;
 use crate::steps;
 use dns_name::Name;
 use prefix_trie::TrieMap;
+use spf_grammar::NetworkFamily;
 use spf_model::{Counts, Limits, Outcome};
 use std::alloc::{AllocError, Global};
 use zone_answers::{Questions, Zones};
@@ -31,12 +32,12 @@ pub struct Both {
 
 impl Scene<'_> {
     /// The outcome of every address of a family. The questions that their evaluations ask are added.
-    fn outcomes<W: FamilyWidth>(
+    fn outcomes<W: NetworkFamily>(
         &self,
         asked: &mut Questions,
     ) -> Result<TrieMap<W, Outcome>, AllocError>
         requires { AreModest self.now.limits }
-        ensures { IfOk result (λ ends. AreEndsOf W.BITS (says self.now.zones.now) (run_at W.address self.now) ends asked.old asked.new) }
+        ensures { IfOk result (λ ends. AreEndsOf W.BITS (says self.now.zones.now) (run_at (address_of W.family) self.now) ends asked.old asked.new) }
     {
         let counts = Counts {
             lookups: 0,
@@ -44,7 +45,7 @@ impl Scene<'_> {
         };
         let begin = TrieMap::whole(self.alloc, State::Live(counts))?;
         let end = self.walk_record(self.limits.lookups + 1, begin, asked)?;
-        steps::outcomes(self.alloc, &end)
+        steps::outcomes(&end)
     }
 }
 

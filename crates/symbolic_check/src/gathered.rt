@@ -1,4 +1,5 @@
 //! The answers that a term gathers before its void is counted (RFC 7208, sections 5.3, 5.4 and 5.7).
+ghost use Rattle.addr_bits.specs.Address.{address_of};
 ghost use Rattle.std.specs.Prelude.{◌≡◌, ◌++◌, OnOk, Some, map, option_map};
 ghost use Rattle.spf_model.specs.Run.{says};
 ghost use Rattle.spf_model.specs.Judging as judging;
@@ -7,9 +8,9 @@ ghost use Rattle.spf_model.specs.Leads.{TargetFits};
 ghost use Rattle.symbolic_check.specs.Settling.{site_at, Settles, SettlesBy};
 ghost use Rattle.symbolic_check.specs.Hosts.{gather_a, gather_mx, gather_exchanges, gather_exists, IsGathered};
 
-use crate::networks::FamilyWidth;
 use crate::scene::Scene;
 use dns_name::Name;
+use spf_grammar::NetworkFamily;
 use spf_macros::MacroText;
 use spf_model::{Cause, Halt, exchanges_of, is_void};
 use std::alloc::AllocError;
@@ -38,7 +39,7 @@ fn move_bodies(answer: Answer, bodies: &mut Bodies) -> Result<(), AllocError>
 
 impl Scene<'_> {
     /// What these hosts have. `before` says whether the term had a void answer before.
-    fn gather_hosts<W: FamilyWidth>(
+    fn gather_hosts<W: NetworkFamily>(
         &self,
         term: u32,
         before: bool,
@@ -46,10 +47,10 @@ impl Scene<'_> {
         asked: &mut Questions,
     ) -> Result<Gathered, Halt>
         ensures { SettlesBy IsGathered (says self.now.zones.now)
-            (λ a counts go. judging.ask_all (site_at self.now (W.address a)) term counts
-            (map (judging.address_question (W.address a)) (map (λ name. name.now) hosts.now)) (λ answers. go (before, answers))) asked.old asked.new result }
+            (λ a counts go. judging.ask_all (site_at self.now (address_of W.family a)) term counts
+            (map (judging.address_question (address_of W.family a)) (map (λ name. name.now) hosts.now)) (λ answers. go (before, answers))) asked.old asked.new result }
     {
-        let kind = W::address_kind();
+        let kind = QKind::of_addresses(W::family());
         let mut void = before;
         let mut bodies = Bodies::new(self.alloc);
         for host in hosts {
@@ -62,14 +63,14 @@ impl Scene<'_> {
     }
 
     /// What the exchanges that were found have, of which there may not be more than the limit (RFC 7208, section 4.6.4).
-    fn gather_exchanges<W: FamilyWidth>(
+    fn gather_exchanges<W: NetworkFamily>(
         &self,
         term: u32,
         found: &Answer,
         asked: &mut Questions,
     ) -> Result<Gathered, Halt>
         ensures { SettlesBy IsGathered (says self.now.zones.now)
-            (λ a counts. gather_exchanges (site_at self.now (W.address a)) term found.now counts) asked.old asked.new result }
+            (λ a counts. gather_exchanges (site_at self.now (address_of W.family a)) term found.now counts) asked.old asked.new result }
     {
         let exchanges = exchanges_of(self.alloc, found.bodies())?;
         let hosts = exchanges.as_slice();
@@ -80,7 +81,7 @@ impl Scene<'_> {
     }
 
     /// What `a` gathers (RFC 7208, section 5.3).
-    pub(crate) fn gather_a<W: FamilyWidth>(
+    pub(crate) fn gather_a<W: NetworkFamily>(
         &self,
         term: u32,
         spec: Option<&MacroText>,
@@ -88,14 +89,14 @@ impl Scene<'_> {
     ) -> Result<Gathered, Halt>
         requires { TargetFits (option_map (λ s. s.now) spec) }
         ensures { SettlesBy IsGathered (says self.now.zones.now)
-            (λ a counts. gather_a (site_at self.now (W.address a)) term (option_map (λ s. s.now) spec.entry) counts) asked.old asked.new result }
+            (λ a counts. gather_a (site_at self.now (address_of W.family a)) term (option_map (λ s. s.now) spec.entry) counts) asked.old asked.new result }
     {
         let name = self.host_name::<W>(term, spec)?;
         self.gather_hosts::<W>(term, false, &[&name], asked)
     }
 
     /// What `mx` gathers (RFC 7208, section 5.4).
-    pub(crate) fn gather_mx<W: FamilyWidth>(
+    pub(crate) fn gather_mx<W: NetworkFamily>(
         &self,
         term: u32,
         spec: Option<&MacroText>,
@@ -103,7 +104,7 @@ impl Scene<'_> {
     ) -> Result<Gathered, Halt>
         requires { TargetFits (option_map (λ s. s.now) spec) }
         ensures { SettlesBy IsGathered (says self.now.zones.now)
-            (λ a counts. gather_mx (site_at self.now (W.address a)) term (option_map (λ s. s.now) spec.entry) counts) asked.old asked.new result }
+            (λ a counts. gather_mx (site_at self.now (address_of W.family a)) term (option_map (λ s. s.now) spec.entry) counts) asked.old asked.new result }
     {
         let name = self.host_name::<W>(term, spec)?;
         let found = self.ask::<W>(term, &name, QKind::Mx, asked)?;
@@ -111,7 +112,7 @@ impl Scene<'_> {
     }
 
     /// What `exists` gathers, which asks for IPv4 addresses in both families (RFC 7208, section 5.7).
-    pub(crate) fn gather_exists<W: FamilyWidth>(
+    pub(crate) fn gather_exists<W: NetworkFamily>(
         &self,
         term: u32,
         spec: &MacroText,
@@ -119,7 +120,7 @@ impl Scene<'_> {
     ) -> Result<Answer, Halt>
         requires { TargetFits (Some spec.now) }
         ensures { Settles (says self.now.zones.now)
-            (λ a counts. gather_exists (site_at self.now (W.address a)) term spec.now counts) asked.old asked.new result }
+            (λ a counts. gather_exists (site_at self.now (address_of W.family a)) term spec.now counts) asked.old asked.new result }
     {
         let name = self.host_name::<W>(term, Some(spec))?;
         self.ask::<W>(term, &name, QKind::A, asked)

@@ -1,4 +1,5 @@
 //! The mechanisms that ask for addresses, for every address of a family (RFC 7208, sections 5.3, 5.4 and 5.7).
+ghost use Rattle.addr_bits.specs.Address.{address_of};
 ghost use Rattle.std.specs.Prelude.{◌≡◌, ℕ, ◌≤◌, List, Option, IfOk, Some, option_map};
 ghost use Rattle.zone_answers.specs.declared.answer.Question.{Question as Asked};
 ghost use Rattle.zone_answers.specs.declared.answer.Answer.{Answer as Told};
@@ -15,11 +16,11 @@ ghost use Rattle.symbolic_check.specs.Hosts.{Found, IsGathered, judge_hosts, jud
 ghost use Rattle.symbolic_check.specs.Scenes.{term_stretch};
 
 use crate::gathered::Gathered;
-use crate::networks::FamilyWidth;
 use crate::scene::Scene;
 use crate::steps;
 use crate::steps::States;
-use spf_grammar::Verdict;
+use match_sets::match_family;
+use spf_grammar::{NetworkFamily, Verdict};
 use spf_macros::MacroText;
 use spf_model::{Cause, Halt, Lens, Outcome, is_void};
 use std::alloc::AllocError;
@@ -34,20 +35,20 @@ fn is_found(answer: &Answer) -> bool
 
 impl Scene<'_> {
     /// Counts a term that asks the DNS (RFC 7208, section 4.6.4).
-    fn count_lookup<W: FamilyWidth>(
+    fn count_lookup<W: NetworkFamily>(
         &self,
         term: u32,
         states: &States<W>,
     ) -> Result<States<W>, AllocError>
         ensures { IfOk result (λ new. (asked : List Asked) → Walks W.BITS (says self.now.zones.now)
-            (λ a. judging.counted (site_at self.now (W.address a)) term) states.now new asked asked) }
+            (λ a. judging.counted (site_at self.now (address_of W.family a)) term) states.now new asked asked) }
     {
         steps::count_lookups(self.alloc, states, self.limits, &self.place(term))
     }
 
     /// What a term that gathered the addresses of hosts comes to: its void is counted, and then it matches where one of them
     /// agrees (RFC 7208, sections 4.6.4, 5.3 and 5.4). Where gathering ended, the term ends with that.
-    fn match_hosts<W: FamilyWidth>(
+    fn match_hosts<W: NetworkFamily>(
         &self,
         term: u32,
         verdict: Verdict,
@@ -60,7 +61,7 @@ impl Scene<'_> {
         ensures { IfOk result (λ new. (part : PartOf Found) (asked more : List Asked)
             → SettlesBy IsGathered (says self.now.zones.now) part asked more gathered → SomeLive W.BITS states.now
             → Walks W.BITS (says self.now.zones.now)
-            (λ a counts go. part a counts (λ found. judge_hosts (site_at self.now (W.address a)) term verdict lens.len4 lens.len6 found counts go)) states.now new asked more) }
+            (λ a counts go. part a counts (λ found. judge_hosts (site_at self.now (address_of W.family a)) term verdict lens.len4 lens.len6 found counts go)) states.now new asked more) }
     {
         let gathered = match gathered {
             Ok(gathered) => gathered,
@@ -69,13 +70,13 @@ impl Scene<'_> {
         };
         let place = self.place(term);
         let counted = steps::count_voids(self.alloc, states, self.limits, &place, gathered.void)?;
-        let set = W::matching(self.alloc, &gathered.found, lens.len4, lens.len6)?;
+        let set = match_family(self.alloc, &gathered.found, lens.of(W::family()))?;
         steps::match_set(self.alloc, &counted, verdict, &set)
     }
 
     /// What `exists` comes to: its void is counted, and then it matches where something was found (RFC 7208, sections 4.6.4
     /// and 5.7). Where gathering ended, the term ends with that.
-    fn match_found<W: FamilyWidth>(
+    fn match_found<W: NetworkFamily>(
         &self,
         term: u32,
         verdict: Verdict,
@@ -85,7 +86,7 @@ impl Scene<'_> {
         ensures { IfOk result (λ new. (part : PartOf Told) (asked more : List Asked)
             → Settles (says self.now.zones.now) part asked more found → SomeLive W.BITS states.now
             → Walks W.BITS (says self.now.zones.now)
-            (λ a counts go. part a counts (λ told. judge_found (site_at self.now (W.address a)) term verdict told counts go)) states.now new asked more) }
+            (λ a counts go. part a counts (λ told. judge_found (site_at self.now (address_of W.family a)) term verdict told counts go)) states.now new asked more) }
     {
         let found = match found {
             Ok(found) => found,
@@ -95,11 +96,11 @@ impl Scene<'_> {
         let place = self.place(term);
         let void = is_void(&found);
         let counted = steps::count_voids(self.alloc, states, self.limits, &place, void)?;
-        steps::match_all(self.alloc, &counted, verdict, is_found(&found))
+        steps::match_all(&counted, verdict, is_found(&found))
     }
 
     /// `a` with its verdict (RFC 7208, section 5.3).
-    pub(crate) fn walk_a<W: FamilyWidth>(
+    pub(crate) fn walk_a<W: NetworkFamily>(
         &self,
         term: u32,
         verdict: Verdict,
@@ -112,7 +113,7 @@ impl Scene<'_> {
         requires len4 { lens.len4 ≤ 32 }
         requires len6 { lens.len6 ≤ 128 }
         ensures { IfOk result (λ new. (depth : ℕ) → Walks W.BITS (says self.now.zones.now)
-            (term_stretch W.address self.now depth term (Directive verdict (mechanism.A (option_map (λ s. s.now) spec.entry) lens.len4 lens.len6))) states new asked.old asked.new) }
+            (term_stretch (address_of W.family) self.now depth term (Directive verdict (mechanism.A (option_map (λ s. s.now) spec.entry) lens.len4 lens.len6))) states new asked.old asked.new) }
     {
         let counted = self.count_lookup(term, &states)?;
         if !steps::is_some_live(&counted) {
@@ -123,7 +124,7 @@ impl Scene<'_> {
     }
 
     /// `mx` with its verdict (RFC 7208, section 5.4).
-    pub(crate) fn walk_mx<W: FamilyWidth>(
+    pub(crate) fn walk_mx<W: NetworkFamily>(
         &self,
         term: u32,
         verdict: Verdict,
@@ -136,7 +137,7 @@ impl Scene<'_> {
         requires len4 { lens.len4 ≤ 32 }
         requires len6 { lens.len6 ≤ 128 }
         ensures { IfOk result (λ new. (depth : ℕ) → Walks W.BITS (says self.now.zones.now)
-            (term_stretch W.address self.now depth term (Directive verdict (mechanism.Mx (option_map (λ s. s.now) spec.entry) lens.len4 lens.len6))) states new asked.old asked.new) }
+            (term_stretch (address_of W.family) self.now depth term (Directive verdict (mechanism.Mx (option_map (λ s. s.now) spec.entry) lens.len4 lens.len6))) states new asked.old asked.new) }
     {
         let counted = self.count_lookup(term, &states)?;
         if !steps::is_some_live(&counted) {
@@ -147,7 +148,7 @@ impl Scene<'_> {
     }
 
     /// `exists` with its verdict (RFC 7208, section 5.7).
-    pub(crate) fn walk_exists<W: FamilyWidth>(
+    pub(crate) fn walk_exists<W: NetworkFamily>(
         &self,
         term: u32,
         verdict: Verdict,
@@ -157,7 +158,7 @@ impl Scene<'_> {
     ) -> Result<States<W>, AllocError>
         requires { TargetFits (Some spec.now) }
         ensures { IfOk result (λ new. (depth : ℕ) → Walks W.BITS (says self.now.zones.now)
-            (term_stretch W.address self.now depth term (Directive verdict (mechanism.Exists spec.now))) states new asked.old asked.new) }
+            (term_stretch (address_of W.family) self.now depth term (Directive verdict (mechanism.Exists spec.now))) states new asked.old asked.new) }
     {
         let counted = self.count_lookup(term, &states)?;
         if !steps::is_some_live(&counted) {
@@ -168,13 +169,13 @@ impl Scene<'_> {
     }
 
     /// `ptr`, which is left open wherever its lookup is counted (RFC 7208, section 5.5). It asks nothing.
-    pub(crate) fn walk_ptr<W: FamilyWidth>(
+    pub(crate) fn walk_ptr<W: NetworkFamily>(
         &self,
         term: u32,
         states: States<W>,
     ) -> Result<States<W>, AllocError>
         ensures { IfOk result (λ new. (asked : List Asked) (depth : ℕ) (verdict : Given) (spec : Option (List Piece)) → Walks W.BITS (says self.now.zones.now)
-            (term_stretch W.address self.now depth term (Directive verdict (mechanism.Ptr spec))) states new asked asked) }
+            (term_stretch (address_of W.family) self.now depth term (Directive verdict (mechanism.Ptr spec))) states new asked asked) }
     {
         let counted = self.count_lookup(term, &states)?;
         let open = Outcome::Unsettled(Cause::Reverse, self.place(term));

@@ -1,5 +1,6 @@
 //! The record that is evaluated, and the parts of its terms that every address of a family has alike (RFC 7208, sections
 //! 4.6 and 4.8).
+ghost use Rattle.addr_bits.specs.Address.{address_of};
 ghost use Rattle.std.specs.Prelude.{◌≡◌, ◌++◌, [], ◌∷◌, List, IfOk, OnOk, Some, option_map, filter_map};
 ghost use Rattle.spf_model.specs.Run.{says};
 ghost use Rattle.spf_model.specs.Judging as judging;
@@ -11,11 +12,10 @@ ghost use Rattle.spf_model.specs.declared.outcome.Cause.TheVariants as cause;
 ghost use Rattle.zone_answers.specs.declared.answer.Question.{Question as Asked};
 ghost use Rattle.symbolic_check.specs.Settling.{site_at, Settles};
 
-use crate::networks::FamilyWidth;
 use addr_bits::Bytes;
 use dns_name::Name;
 use master_reader::Body;
-use spf_grammar::{Terms, parse};
+use spf_grammar::{NetworkFamily, Terms, parse};
 use spf_macros::{Expanded, MacroText, target};
 use spf_model::{Cause, Halt, Limits, Outcome, Place, cause_of, name_of, spf_texts};
 use std::alloc::{AllocError, Global};
@@ -73,14 +73,14 @@ impl Scene<'_> {
     }
 
     /// The target text of a term (RFC 7208, section 4.8): what its domain-spec asks for, or the domain where it has none.
-    fn target_text<W: FamilyWidth>(
+    fn target_text<W: NetworkFamily>(
         &self,
         term: u32,
         spec: Option<&MacroText>,
     ) -> Result<Bytes, Halt>
         requires { TargetFits (option_map (λ s. s.now) spec) }
         ensures { (asked : List Asked) → Settles (says self.now.zones.now)
-            (λ a counts. judging.with_target (site_at self.now (W.address a)) term counts (option_map (λ s. s.now) spec.entry)) asked asked result }
+            (λ a counts. judging.with_target (site_at self.now (address_of W.family a)) term counts (option_map (λ s. s.now) spec.entry)) asked asked result }
     {
         let Some(spec) = spec else {
             let mut domain = Bytes::new(self.alloc);
@@ -94,14 +94,14 @@ impl Scene<'_> {
     }
 
     /// The name of hosts that a term asks for, once its lookup is counted (RFC 7208, section 4.8). It asks nothing.
-    pub(crate) fn host_name<W: FamilyWidth>(
+    pub(crate) fn host_name<W: NetworkFamily>(
         &self,
         term: u32,
         spec: Option<&MacroText>,
     ) -> Result<Name, Halt>
         requires { TargetFits (option_map (λ s. s.now) spec) }
         ensures { (asked : List Asked) → Settles (says self.now.zones.now)
-            (λ a counts. judging.naming (site_at self.now (W.address a)) term (option_map (λ s. s.now) spec.entry) counts) asked asked result }
+            (λ a counts. judging.naming (site_at self.now (address_of W.family a)) term (option_map (λ s. s.now) spec.entry) counts) asked asked result }
     {
         let text = self.target_text::<W>(term, spec)?;
         match name_of(text.as_slice()) {
@@ -112,14 +112,14 @@ impl Scene<'_> {
 
     /// The domain whose record a term asks for, as a text and as a name, once its lookup is counted (RFC 7208, sections 5.2 and
     /// 6.1). It asks nothing.
-    pub(crate) fn target<W: FamilyWidth>(
+    pub(crate) fn target<W: NetworkFamily>(
         &self,
         term: u32,
         spec: &MacroText,
     ) -> Result<(Bytes, Name), Halt>
         requires { TargetFits (Some spec.now) }
         ensures { (asked : List Asked) → Settles (says self.now.zones.now)
-            (λ a counts. judging.naming_target (site_at self.now (W.address a)) term spec.now counts) asked asked result }
+            (λ a counts. judging.naming_target (site_at self.now (address_of W.family a)) term spec.now counts) asked asked result }
     {
         let text = self.target_text::<W>(term, Some(spec))?;
         match name_of(text.as_slice()) {
@@ -143,14 +143,14 @@ impl Scene<'_> {
     }
 
     /// The answer to a term's question. One that lies outside leaves the term open, and one that goes round is an error.
-    pub(crate) fn ask<W: FamilyWidth>(
+    pub(crate) fn ask<W: NetworkFamily>(
         &self,
         term: u32,
         name: &Name,
         kind: QKind,
         asked: &mut Questions,
     ) -> Result<Answer, Halt>
-        ensures { Settles (says self.now.zones.now) (λ a counts. judging.ask (site_at self.now (W.address a)) term counts (record { name = name.now; kind = kind })) asked.old asked.new result }
+        ensures { Settles (says self.now.zones.now) (λ a counts. judging.ask (site_at self.now (address_of W.family a)) term counts (record { name = name.now; kind = kind })) asked.old asked.new result }
     {
         match self.answer(name, kind, asked)? {
             Answer::Outside => Err(self.open(Cause::Outside, term)),

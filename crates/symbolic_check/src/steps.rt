@@ -30,12 +30,7 @@ pub(crate) fn count_lookups<W: Width>(
 ) -> Result<States<W>, AllocError>
     ensures { IfOk result (λ new. StepsAt W.BITS (λ a. step.after_lookup limits place.now) states.now new) }
 {
-    TrieMap::combine(
-        alloc,
-        states,
-        states,
-        |state, _| state.after_lookup(alloc, limits, place),
-    )
+    states.map(|state| state.after_lookup(alloc, limits, place))
 }
 
 /// Counts a term that got a void answer, or none (RFC 7208, section 4.6.4).
@@ -48,12 +43,7 @@ pub(crate) fn count_voids<W: Width>(
 ) -> Result<States<W>, AllocError>
     ensures { IfOk result (λ new. StepsAt W.BITS (λ a. step.after_void limits place.now void) states.now new) }
 {
-    TrieMap::combine(
-        alloc,
-        states,
-        states,
-        |state, _| state.after_void(alloc, limits, place, void),
-    )
+    states.map(|state| state.after_void(alloc, limits, place, void))
 }
 
 /// Ends the evaluation of each live address with an outcome that is no verdict.
@@ -64,29 +54,18 @@ pub(crate) fn fail<W: Width>(
 ) -> Result<States<W>, AllocError>
     ensures { IfOk result (λ new. StepsAt W.BITS (λ a. step.after_failure outcome.now) states.now new) }
 {
-    TrieMap::combine(
-        alloc,
-        states,
-        states,
-        |state, _| state.after_failure(alloc, outcome),
-    )
+    states.map(|state| state.after_failure(alloc, outcome))
 }
 
 /// A directive that matches every address, or none (RFC 7208, section 4.6.2).
 pub(crate) fn match_all<W: Width>(
-    alloc: Global,
     states: &States<W>,
     verdict: Verdict,
     matches: bool,
 ) -> Result<States<W>, AllocError>
     ensures { IfOk result (λ new. StepsAt W.BITS (λ a. step.after_match verdict matches) states.now new) }
 {
-    TrieMap::combine(
-        alloc,
-        states,
-        states,
-        |state, _| state.after_match(verdict, matches),
-    )
+    states.map(|state| state.after_match(verdict, matches))
 }
 
 /// A directive that matches the addresses of a set (RFC 7208, section 4.6.2).
@@ -132,12 +111,7 @@ pub(crate) fn enter<W: Width>(
 ) -> Result<States<W>, AllocError>
     ensures { IfOk result (λ new. StepsAt W.BITS (λ a state. step.after_lookup limits place.now (step.entered state)) states.now new) }
 {
-    TrieMap::combine(
-        alloc,
-        states,
-        states,
-        |state, _| state.entered().after_lookup(alloc, limits, place),
-    )
+    states.map(|state| state.entered().after_lookup(alloc, limits, place))
 }
 
 /// What a term makes of the record that it asks for (RFC 7208, sections 5.2 and 6.1). `inner` is what stands after that
@@ -160,11 +134,8 @@ pub(crate) fn use_target<W: Width>(
 }
 
 /// The outcome of each address, where the record is evaluated whole.
-pub(crate) fn outcomes<W: Width>(
-    alloc: Global,
-    states: &States<W>,
-) -> Result<TrieMap<W, Outcome>, AllocError>
+pub(crate) fn outcomes<W: Width>(states: &States<W>) -> Result<TrieMap<W, Outcome>, AllocError>
     ensures { IfOk result (λ ends. (a : ℕ) → a < 2 ^ W.BITS → value_at W.BITS ends a ≡ option_map step.outcome_of (value_at W.BITS states.now a)) }
 {
-    TrieMap::combine(alloc, states, states, |state, _| state.outcome())
+    states.map(|state| state.outcome())
 }

@@ -1,5 +1,6 @@
 //! check_host for every address of a family: records, their terms, and the records that these ask for (RFC 7208, sections
 //! 4.6, 5.2 and 6.1).
+ghost use Rattle.addr_bits.specs.Address.{address_of};
 ghost use Rattle.std.specs.Prelude.{◌≡◌, ◌-◌, ◌≤◌, ℕ, true, List, ◌++◌, length, take, drop, IfOk, Some};
 ghost use Rattle.std.specs.List.{list_all};
 ghost use Rattle.zone_answers.specs.declared.answer.Question.{Question};
@@ -11,12 +12,12 @@ ghost use Rattle.symbolic_check.specs.Networks as networks;
 ghost use Rattle.symbolic_check.specs.Walk.{Walks};
 ghost use Rattle.symbolic_check.specs.Scenes.{number_after, term_stretch, terms_stretch, default_stretch, record_stretch, target_stretch, reached_stretch};
 
-use crate::networks::{FamilyWidth, first_networks};
+use crate::networks::first_networks;
 use crate::scene::Scene;
 use crate::state::Purpose;
 use crate::steps;
 use crate::steps::States;
-use spf_grammar::{Mechanism, Term, Verdict};
+use spf_grammar::{Mechanism, NetworkFamily, Term, Verdict};
 use spf_macros::MacroText;
 use spf_model::{Cause, Halt, Lens, Outcome, redirect_of};
 use std::alloc::AllocError;
@@ -35,14 +36,14 @@ fn is_row_term(term: &Term) -> bool
 
 impl Scene<'_> {
     /// A row of directives with networks or `all` (RFC 7208, sections 5.1 and 5.6), as one step.
-    fn walk_row<W: FamilyWidth>(
+    fn walk_row<W: NetworkFamily>(
         &self,
         row: &[Term],
         states: States<W>,
     ) -> Result<States<W>, AllocError>
         requires { list_all networks.is_row_term row.now ≡ true }
         ensures { IfOk result (λ new. (depth t : ℕ) (asked : List Question) → Walks W.BITS (says self.now.zones.now)
-            (terms_stretch W.address self.now depth t row.now) states new asked asked) }
+            (terms_stretch (address_of W.family) self.now depth t row.now) states new asked asked) }
     {
         if !steps::is_some_live(&states) {
             return Ok(states);
@@ -52,7 +53,7 @@ impl Scene<'_> {
     }
 
     /// The row of networks before another term. Mostly there is none.
-    fn pass_row<W: FamilyWidth>(
+    fn pass_row<W: NetworkFamily>(
         &self,
         terms: &[Term],
         start: usize,
@@ -63,8 +64,8 @@ impl Scene<'_> {
         requires within { end ≤ length terms.now }
         requires row { list_all networks.is_row_term (take (end - start) (drop start terms.now)) ≡ true }
         ensures { IfOk result (λ mid. (depth t : ℕ) (rest : List GivenTerm) (new : _) (asked more : List Question)
-            → Walks W.BITS (says self.now.zones.now) (terms_stretch W.address self.now depth (number_after t (end - start)) rest) mid new asked more
-            → Walks W.BITS (says self.now.zones.now) (terms_stretch W.address self.now depth t (take (end - start) (drop start terms.now) ++ rest)) states new asked more) }
+            → Walks W.BITS (says self.now.zones.now) (terms_stretch (address_of W.family) self.now depth (number_after t (end - start)) rest) mid new asked more
+            → Walks W.BITS (says self.now.zones.now) (terms_stretch (address_of W.family) self.now depth t (take (end - start) (drop start terms.now) ++ rest)) states new asked more) }
     {
         if start == end {
             return Ok(states);
@@ -73,7 +74,7 @@ impl Scene<'_> {
     }
 
     /// The row of networks that ends a record.
-    fn end_row<W: FamilyWidth>(
+    fn end_row<W: NetworkFamily>(
         &self,
         terms: &[Term],
         start: usize,
@@ -82,7 +83,7 @@ impl Scene<'_> {
         requires within { start ≤ length terms.now }
         requires row { list_all networks.is_row_term (drop start terms.now) ≡ true }
         ensures { IfOk result (λ new. (depth t : ℕ) (asked : List Question) → Walks W.BITS (says self.now.zones.now)
-            (terms_stretch W.address self.now depth t (drop start terms.now)) states new asked asked) }
+            (terms_stretch (address_of W.family) self.now depth t (drop start terms.now)) states new asked asked) }
     {
         self.walk_row(&terms[start..], states)
     }
@@ -90,7 +91,7 @@ impl Scene<'_> {
     /// The record that a term asks for, with the states that enter it once its lookup is counted. Where its target is no name, its
     /// evaluation ends with that.
     #[cycle(walk)]
-    fn reach_target<W: FamilyWidth>(
+    fn reach_target<W: NetworkFamily>(
         &self,
         depth: u32,
         term: u32,
@@ -100,7 +101,7 @@ impl Scene<'_> {
     ) -> Result<States<W>, AllocError>
         requires { TargetFits (Some spec.now) }
         ensures { IfOk result (λ new. Walks W.BITS (says self.now.zones.now)
-            (reached_stretch W.address self.now depth term spec.now) states new asked.old asked.new) }
+            (reached_stretch (address_of W.family) self.now depth term spec.now) states new asked.old asked.new) }
     {
         if !steps::is_some_live(&states) {
             return Ok(states);
@@ -123,7 +124,7 @@ impl Scene<'_> {
 
     /// What a term makes of the record that it asks for. Records below it are nested so deep.
     #[cycle(walk)]
-    pub(crate) fn walk_target<W: FamilyWidth>(
+    pub(crate) fn walk_target<W: NetworkFamily>(
         &self,
         depth: u32,
         term: u32,
@@ -134,7 +135,7 @@ impl Scene<'_> {
     ) -> Result<States<W>, AllocError>
         requires { TargetFits (Some spec.now) }
         ensures { IfOk result (λ new. Walks W.BITS (says self.now.zones.now)
-            (target_stretch W.address self.now depth term spec.now purpose) states new asked.old asked.new) }
+            (target_stretch (address_of W.family) self.now depth term spec.now purpose) states new asked.old asked.new) }
     {
         let place = self.place(term);
         let entered = steps::enter(self.alloc, &states, self.limits, &place)?;
@@ -144,7 +145,7 @@ impl Scene<'_> {
 
     /// A term. Records below it are nested so deep.
     #[cycle(walk)]
-    pub(crate) fn walk_term<W: FamilyWidth>(
+    pub(crate) fn walk_term<W: NetworkFamily>(
         &self,
         depth: u32,
         number: u32,
@@ -154,7 +155,7 @@ impl Scene<'_> {
     ) -> Result<States<W>, AllocError>
         requires { TermFits term.now }
         ensures { IfOk result (λ new. Walks W.BITS (says self.now.zones.now)
-            (term_stretch W.address self.now depth number term.now) states new asked.old asked.new) }
+            (term_stretch (address_of W.family) self.now depth number term.now) states new asked.old asked.new) }
     {
         let Term::Directive(verdict, mechanism) = term else {
             return self.walk_row(std::slice::from_ref(term), states);
@@ -188,7 +189,7 @@ impl Scene<'_> {
 
     /// The terms of the record, up to the one at which no address is live. Records below them are nested so deep.
     #[cycle(walk)]
-    pub(crate) fn walk_terms<W: FamilyWidth>(
+    pub(crate) fn walk_terms<W: NetworkFamily>(
         &self,
         depth: u32,
         terms: &[Term],
@@ -197,7 +198,7 @@ impl Scene<'_> {
     ) -> Result<States<W>, AllocError>
         requires { TermsFit terms.now }
         ensures { IfOk result (λ new. Walks W.BITS (says self.now.zones.now)
-            (terms_stretch W.address self.now depth 1 terms.now) states new asked.old asked.new) }
+            (terms_stretch (address_of W.family) self.now depth 1 terms.now) states new asked.old asked.new) }
     {
         let mut walked = states;
         let mut start = 0;
@@ -218,7 +219,7 @@ impl Scene<'_> {
 
     /// What comes where no directive of the record matches (RFC 7208, sections 4.7 and 6.1). Mostly no address is live here.
     #[cycle(walk)]
-    fn walk_default<W: FamilyWidth>(
+    fn walk_default<W: NetworkFamily>(
         &self,
         depth: u32,
         terms: &[Term],
@@ -227,7 +228,7 @@ impl Scene<'_> {
     ) -> Result<States<W>, AllocError>
         requires { TermsFit terms.now }
         ensures { IfOk result (λ new. Walks W.BITS (says self.now.zones.now)
-            (default_stretch W.address self.now depth (redirect_from 1 terms.now)) states new asked.old asked.new) }
+            (default_stretch (address_of W.family) self.now depth (redirect_from 1 terms.now)) states new asked.old asked.new) }
     {
         if !steps::is_some_live(&states) {
             return Ok(states);
@@ -236,20 +237,20 @@ impl Scene<'_> {
             Some((term, spec)) => {
                 self.walk_target(depth, term, spec, Purpose::Redirect, states, asked)
             }
-            None => steps::match_all(self.alloc, &states, Verdict::Neutral, true),
+            None => steps::match_all(&states, Verdict::Neutral, true),
         }
     }
 
     /// The record at the domain. Records are nested so deep, this one counted.
     #[cycle(walk)]
-    pub(crate) fn walk_record<W: FamilyWidth>(
+    pub(crate) fn walk_record<W: NetworkFamily>(
         &self,
         depth: u32,
         states: States<W>,
         asked: &mut Questions,
     ) -> Result<States<W>, AllocError>
         ensures { IfOk result (λ new. Walks W.BITS (says self.now.zones.now)
-            (record_stretch W.address self.now depth) states new asked.old asked.new) }
+            (record_stretch (address_of W.family) self.now depth) states new asked.old asked.new) }
     {
         if depth == 0 {
             let outcome = Outcome::Perm(Cause::Lookups, self.place(0));

@@ -1,8 +1,10 @@
 -- Which addresses have a verdict, and the least that has none.
 use Rattle.std.specs.Prelude.{◌≡◌, ◌<◌, ◌^◌, ℕ, Bool, true, false, List, Option, Some, IsSomeAnd}
+use Rattle.addr_bits.specs.Address.{address_of}
 use Rattle.addr_bits.specs.Prefix.{Cidr}
 use Rattle.addr_bits.specs.declared.address.Address.{Address}
 use Rattle.addr_bits.specs.declared.address.Address.TheVariants.{V4, V6}
+use Rattle.addr_bits.specs.declared.address.Family.{Family}
 use Rattle.prefix_trie.specs.Leaves.{value_at}
 use Rattle.spf_grammar.specs.declared.verdict.Verdict.{Verdict}
 use Rattle.spf_grammar.specs.declared.verdict.Verdict.TheVariants.{Neutral}
@@ -39,6 +41,11 @@ pub record IsLeastWithout (bits : ℕ) (outcomes : List (Cidr × Outcome)) (a : 
   pub here : value_at bits outcomes a ≡ Some outcome
   pub no_verdict : has_verdict outcome ≡ false
   pub least : (b : ℕ) → b < a → HasVerdict bits outcomes b
+
+-- the same as a refusal of one family; want of memory may come anywhere
+abbrev pub IsFamilyFault : Family → (bits : ℕ) → List (Cidr × Outcome) → VerdictFault → Type 0
+IsFamilyFault f bits outcomes (Refused address outcome) = (a : ℕ) × (address ≡ address_of f a) × IsLeastWithout bits outcomes a outcome
+IsFamilyFault f bits outcomes Memory = Unit {0}
 
 -- project's own choice: a refusal is of the least IPv4 address without a verdict, or where there is none of the least IPv6 address
 abbrev pub IsRefused : List (Cidr × Outcome) → List (Cidr × Outcome) → Address → Outcome → Type 0

@@ -1,14 +1,14 @@
 //! Verdicts from outcomes.
 ghost use Rattle.std.specs.Prelude.{◌≡◌, ◌<◌, ◌^◌, ℕ, IfOk, IfErr, IfSome, IfNone, option_map};
 ghost use Rattle.prefix_trie.specs.Leaves.{value_at};
-ghost use Rattle.verdict_map.specs.Verdicts.{has_verdict, verdict_or_neutral, IsVerdictOf, HaveVerdicts, IsLeastWithout, IsFault};
+ghost use Rattle.verdict_map.specs.Verdicts.{has_verdict, verdict_or_neutral, IsVerdictOf, HaveVerdicts, IsLeastWithout, IsFamilyFault, IsFault};
 
 use crate::VerdictFault;
-use addr_bits::{Address, Width};
+use addr_bits::{AddressFamily, Width};
 use prefix_trie::TrieMap;
 use spf_grammar::Verdict;
 use spf_model::Outcome;
-use std::alloc::{AllocError, Global};
+use std::alloc::AllocError;
 
 /// The verdict of every address, as a trie for each family.
 #[derive(Drop)]
@@ -51,26 +51,34 @@ fn least_without<W: Width>(
 }
 
 /// The verdict at each address, and neutral where the outcome is none.
-fn verdicts_of<W: Width>(
-    alloc: Global,
-    outcomes: &TrieMap<W, Outcome>,
-) -> Result<TrieMap<W, Verdict>, AllocError>
+fn verdicts_of<W: Width>(outcomes: &TrieMap<W, Outcome>) -> Result<TrieMap<W, Verdict>, AllocError>
     ensures { IfOk result (λ verdicts. (a : ℕ) → a < 2 ^ W.BITS → value_at W.BITS verdicts a ≡ option_map verdict_or_neutral (value_at W.BITS outcomes.now a)) }
 {
-    TrieMap::combine(
-        alloc,
-        outcomes,
-        outcomes,
-        |outcome, _| Ok(verdict_of(outcome)),
-    )
+    outcomes.map(|outcome| Ok(verdict_of(outcome)))
+}
+
+/// The verdict of every address of a family. `Refused` comes exactly where some address has an outcome that is no verdict,
+/// with the least such address and its outcome; `Memory` where there is no memory.
+#[tactic(auto, using(crate::proofs::Outcomes::verdict_of_outcome))]
+fn family_verdicts<W: AddressFamily>(
+    outcomes: &TrieMap<W, Outcome>,
+) -> Result<TrieMap<W, Verdict>, VerdictFault>
+    ensures found { IfOk result (λ tries. (a : ℕ) → a < 2 ^ W.BITS → IsVerdictOf (value_at W.BITS outcomes.now a) (value_at W.BITS tries a)) }
+    ensures fault { IfErr result (IsFamilyFault W.family W.BITS outcomes.now) }
+{
+    if let Some((a, outcome)) = least_without(outcomes)? {
+        return Err(VerdictFault::Refused {
+            address: a.address(),
+            outcome,
+        });
+    }
+    Ok(verdicts_of(outcomes)?)
 }
 
 /// The verdict of every address. `Refused` comes exactly where some address has an outcome that is no verdict, with the
 /// least IPv4 address of that kind, or where there is none the least IPv6 address, and its outcome; `Memory` where there is
 /// no memory.
-#[tactic(auto, using(crate::proofs::Outcomes::verdict_of_outcome))]
 pub fn verdicts(
-    alloc: Global,
     v4: &TrieMap<u32, Outcome>,
     v6: &TrieMap<u128, Outcome>,
 ) -> Result<VerdictTries, VerdictFault>
@@ -78,20 +86,7 @@ pub fn verdicts(
     ensures six { IfOk result (λ tries. (a : ℕ) → a < 2 ^ 128 → IsVerdictOf (value_at 128 v6.now a) (value_at 128 tries.v6 a)) }
     ensures fault { IfErr result (IsFault v4.now v6.now) }
 {
-    if let Some((a, outcome)) = least_without(v4)? {
-        return Err(VerdictFault::Refused {
-            address: Address::V4(a),
-            outcome,
-        });
-    }
-    if let Some((a, outcome)) = least_without(v6)? {
-        return Err(VerdictFault::Refused {
-            address: Address::V6(a),
-            outcome,
-        });
-    }
-    Ok(VerdictTries {
-        v4: verdicts_of(alloc, v4)?,
-        v6: verdicts_of(alloc, v6)?,
-    })
+    let v4 = family_verdicts(v4)?;
+    let v6 = family_verdicts(v6)?;
+    Ok(VerdictTries { v4, v6 })
 }

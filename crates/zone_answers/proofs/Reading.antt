@@ -9,16 +9,17 @@ use Rattle.dns_name.proofs.Octets.{all_append}
 use Rattle.master_lex.specs.declared.entry.Token.{Token}
 use Rattle.master_lex.specs.declared.entry.Entry.{Entry}
 use Rattle.master_lex.specs.Entries.{has_token}
-use Rattle.addr_bits.specs.Ip4.{SpellsIp4}
-use Rattle.addr_bits.specs.Ip6.{SpellsIp6}
+use Rattle.addr_bits.specs.declared.address.Family.{Family}
+use Rattle.addr_bits.specs.declared.address.Family.TheVariants.{V4, V6}
+use Rattle.addr_bits.specs.Address.{address_of}
 use Rattle.master_reader.specs.declared.fault.Kind.{Kind}
 use Rattle.master_reader.specs.declared.fault.Kind.TheVariants as kinds
 use Rattle.master_reader.specs.declared.record.Body.{Body}
-use Rattle.master_reader.specs.declared.record.Body.TheVariants.{A, Aaaa, Mx, Txt, Cname, Ns, Other}
+use Rattle.master_reader.specs.declared.record.Body.TheVariants.{Mx, Txt, Cname, Ns, Other}
 use Rattle.master_reader.specs.declared.record.Record.{Record}
 use Rattle.master_reader.specs.Tokens.{bytes_of, is_bare, is_word, name_in}
 use Rattle.master_reader.specs.Entry.{Context, Ask, a_record, an_origin, no_record, context_behind, only_name, ◌>>=◌}
-use Rattle.master_reader.specs.Data.{IsBody, IsAddressBody, other_body, txt_body, name_body, mx_body}
+use Rattle.master_reader.specs.Data.{address_body, IsBody, IsAddressBody, other_body, txt_body, name_body, mx_body}
 use Rattle.master_reader.specs.Reading.{Reads, Adds, Mean, first_context}
 use Rattle.zone_answers.specs.Lend.{AreLendable, IsBodyFit}
 
@@ -73,15 +74,19 @@ by_test : (t : Bool) (P Q G : Type 0) → MatchBool t P Q → (P → G) → (Q �
 by_test true P Q G h f g = f h
 by_test false P Q G h f g = g h
 
-address_fit : (Spells : List ℕ → ℕ → Type 0) (build : ℕ → Body) → ((n : ℕ) → IsBodyFit (build n)) → (content : List Token) (body : Body) → IsAddressBody Spells build content (Ok body) → IsBodyFit body
-address_fit Spells build plain [] body e = absurd cc
-address_fit Spells build plain (token ∷ []) body e = by_test (is_bare token) _ _ (IsBodyFit body) e (λ h. subst IsBodyFit (sym h.2) (plain h.0)) (λ h. absurd cc)
-address_fit Spells build plain (token ∷ other ∷ more) body e = absurd cc
+address_fit : (f : Family) (content : List Token) (body : Body) → IsAddressBody f content (Ok body) → IsBodyFit body
+address_fit f [] body e = absurd cc
+address_fit f (token ∷ []) body e = by_test (is_bare token) _ _ (IsBodyFit body) e (λ h. subst IsBodyFit (sym h.2) (plain f h.0)) (λ h. absurd cc)
+  where
+    plain : (f : Family) (n : ℕ) → IsBodyFit (address_body (address_of f n))
+    plain V4 n = tt
+    plain V6 n = tt
+address_fit f (token ∷ other ∷ more) body e = absurd cc
 
 body_fit : (origin : List (List ℕ)) (type : Token) (content : List Token) (body : Body) → IsBody origin type content (Ok body) → IsBodyFit body
 body_fit origin type content body h =
-    by_test (is_word type (codes "a")) _ _ (IsBodyFit body) h (address_fit SpellsIp4 A (λ _. tt) content body)
-    (λ k. by_test (is_word type (codes "aaaa")) _ _ (IsBodyFit body) k (address_fit SpellsIp6 Aaaa (λ _. tt) content body) (other_fit origin type content body))
+    by_test (is_word type (codes "a")) _ _ (IsBodyFit body) h (address_fit V4 content body)
+    (λ k. by_test (is_word type (codes "aaaa")) _ _ (IsBodyFit body) k (address_fit V6 content body) (other_fit origin type content body))
 
 -- ---- the records of a file
 

@@ -2,7 +2,7 @@
 ghost use Rattle.std.specs.Prelude.{◌≡◌};
 ghost use Rattle.zone_answers.specs.Answers.{answer_bodies};
 
-use addr_bits::Items;
+use addr_bits::{Family, Items};
 use dns_name::Name;
 use master_reader::Body;
 
@@ -13,6 +13,20 @@ pub enum QKind {
     Aaaa,
     Mx,
     Txt,
+}
+
+impl QKind {
+    ghost use Rattle.zone_answers.specs.Answers.{kind_in};
+
+    /// The kind of record that has the addresses of a family (RFC 1035, section 3.4.1, and RFC 3596, section 2.1).
+    pub fn of_addresses(family: Family) -> QKind
+        ensures { result ≡ kind_in family }
+    {
+        match family {
+            Family::V4 => QKind::A,
+            Family::V6 => QKind::Aaaa,
+        }
+    }
 }
 
 /// A name and what is asked of it.

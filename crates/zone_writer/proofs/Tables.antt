@@ -6,6 +6,9 @@ use Rattle.std.specs.Fmt.{digits, digits_onto}
 use Rattle.std.specs.List.{list_any, join_with_byte}
 use Rattle.std.proofs.lemmas.Bool.{or_parts, or_from}
 use Rattle.std.proofs.lemmas.List.Folds.{list_any-append}
+use Rattle.addr_bits.specs.declared.address.Family.{Family}
+use Rattle.addr_bits.specs.declared.address.Family.TheVariants.{V4, V6}
+use Rattle.addr_bits.specs.Address.{text_in}
 use Rattle.addr_bits.specs.Ip4.{octets_of, ip4_text}
 use Rattle.addr_bits.specs.Ip6.{groups_of, group_text, groups_text, ip6_text, leading_zeros_of, longest_run, written_groups}
 use Rattle.master_lex.specs.Items.{is_feed}
@@ -119,14 +122,18 @@ row_no_feed address len needs h =
     (both (codes " row " ++ address) (47 ∷ decimal len) (both (codes " row ") address refl h) (more 47 (decimal len) refl (decimal_no_feed len)))
     (needs_no_feed needs)
 
-rows_on : (zone : List (List ℕ)) (context : Context) (rest : List ℕ) (records : List Record) (address_text : ℕ → List ℕ) (rows : List NeedRow) → ((n : ℕ) → HasNoFeed (address_text n))
-    → ((n : ℕ) → ReadsOn zone context n rest records) → (line : ℕ) → ReadsOn zone context line (row_lines address_text rows ++ rest) records
-rows_on zone context rest records address_text [] h on line = on line
-rows_on zone context rest records address_text (row ∷ rows) h on line =
-    let address : List ℕ = address_text row.prefix.start in
-    subst (λ (bytes : List ℕ). ReadsOn zone context line bytes records) (sym (append_assoc (row_line address row.prefix.len row.needs) (row_lines address_text rows) rest))
-    (comment_on zone context line (row_body address row.prefix.len row.needs) (row_lines address_text rows ++ rest) records (row_no_feed address row.prefix.len row.needs (h row.prefix.start))
-    (rows_on zone context rest records address_text rows h on))
+address_no_feed : (f : Family) (n : ℕ) → HasNoFeed (text_in f n)
+address_no_feed V4 n = ip4_no_feed n
+address_no_feed V6 n = ip6_no_feed n
+
+rows_on : (zone : List (List ℕ)) (context : Context) (rest : List ℕ) (records : List Record) (f : Family) (rows : List NeedRow)
+    → ((n : ℕ) → ReadsOn zone context n rest records) → (line : ℕ) → ReadsOn zone context line (row_lines f rows ++ rest) records
+rows_on zone context rest records f [] on line = on line
+rows_on zone context rest records f (row ∷ rows) on line =
+    let address : List ℕ = text_in f row.prefix.start in
+    subst (λ (bytes : List ℕ). ReadsOn zone context line bytes records) (sym (append_assoc (row_line address row.prefix.len row.needs) (row_lines f rows) rest))
+    (comment_on zone context line (row_body address row.prefix.len row.needs) (row_lines f rows ++ rest) records (row_no_feed address row.prefix.len row.needs (address_no_feed f row.prefix.start))
+    (rows_on zone context rest records f rows on))
 
 table_parts : (rows4 rows6 number : List ℕ) → (((rows4 ++ rows6) ++ codes "; fewest ") ++ number) ++ 10 ∷ [] ≡ rows4 ++ (rows6 ++ (comment_text (codes " fewest " ++ number) ++ []))
 table_parts rows4 rows6 number = simp (append_assoc, append-nil)
@@ -135,7 +142,7 @@ table_parts rows4 rows6 number = simp (append_assoc, append-nil)
 pub table_on : (zone : List (List ℕ)) (context : Context) (rows4 rows6 : List NeedRow) (total line : ℕ) → ReadsOn zone context line (table_text rows4 rows6 total) []
 table_on zone context rows4 rows6 total line =
     let number : HasNoFeed (codes " fewest " ++ decimal total) = both (codes " fewest ") (decimal total) refl (decimal_no_feed total) in
-    subst (λ (bytes : List ℕ). ReadsOn zone context line bytes []) (sym (table_parts (row_lines ip4_text rows4) (row_lines ip6_text rows6) (decimal total)))
-    (rows_on zone context _ [] ip4_text rows4 ip4_no_feed
-    (rows_on zone context _ [] ip6_text rows6 ip6_no_feed
+    subst (λ (bytes : List ℕ). ReadsOn zone context line bytes []) (sym (table_parts (row_lines V4 rows4) (row_lines V6 rows6) (decimal total)))
+    (rows_on zone context _ [] V4 rows4
+    (rows_on zone context _ [] V6 rows6
     (λ n. comment_on zone context n (codes " fewest " ++ decimal total) [] [] number (nothing_on zone context))) line)

@@ -4,15 +4,18 @@ use Rattle.std.specs.Prelude.{codes}
 use Rattle.std.specs.Char.{is_ascii_digit}
 use Rattle.std.specs.List.{list_all, list_any, fold}
 use Rattle.std.proofs.lemmas.Bool.{and_parts, and_from, or_from}
-use Rattle.addr_bits.specs.Ip4.{ip4_text}
-use Rattle.addr_bits.specs.Ip6.{ip6_text}
+use Rattle.addr_bits.specs.declared.address.Family.{Family}
+use Rattle.addr_bits.specs.declared.address.Family.TheVariants.{V4, V6}
+use Rattle.addr_bits.specs.Address.{bits_of, text_in}
+use Rattle.addr_bits.specs.Prefix.{Cidr, IsCidr}
+use Rattle.addr_bits.proofs.Families.{few_bits}
 use Rattle.addr_bits.specs.Laws.{is_address_byte}
 use Rattle.addr_bits.proofs.Texts.{one_address, written_address}
 use Rattle.spf_macros.specs.Words.{is_domain, is_label}
 use Rattle.spf_grammar.proofs.Numbers.{decimal_ascii}
 use Rattle.spf_grammar.proofs.OneTail.{all_both, keeps_out, weaker}
 use Rattle.spf_grammar.specs.Families.{HasPrefix, HavePrefixes}
-use Rattle.spf_grammar.specs.Written.{written_flat, written_len, written_net, written_qualifier}
+use Rattle.spf_grammar.specs.Written.{network_word, written_flat, written_len, written_net, written_network, written_qualifier}
 use Rattle.spf_grammar.specs.declared.flat.FlatTerm.{FlatTerm}
 use Rattle.spf_grammar.specs.declared.flat.Net.{Net}
 use Rattle.spf_grammar.specs.declared.flat.Net.TheVariants as net
@@ -49,15 +52,20 @@ len_bytes most len few = by (len == most)
     by true = refl
     by false = both (codes "/") (decimal len) refl (decimal_bytes len (omega (arith, few)))
 
+network_bytes : (f : Family) (p : Cidr) → IsCidr (bits_of f) p → HasStringBytes (written_network f p)
+network_bytes f p h =
+    let text : List ℕ = text_in f p.start in
+    both (network_word f ++ text) (written_len (codes "/") (bits_of f) p.len)
+    (both (network_word f) text (word f) (address_bytes text (one_address.bytes f text p.start (written_address.written f p.start h.within))))
+    (len_bytes (bits_of f) p.len (omega (arith, h.short, few_bits f)))
+  where
+    word : (f : Family) → HasStringBytes (network_word f)
+    word V4 = refl
+    word V6 = refl
+
 net_bytes : (n : Net) → HasPrefix n → HasStringBytes (written_net n)
-net_bytes (net.V4 p) h =
-    both (codes "ip4:" ++ ip4_text p.start) (written_len (codes "/") 32 p.len)
-    (both (codes "ip4:") (ip4_text p.start) refl (address_bytes (ip4_text p.start) (one_address.bytes4 (ip4_text p.start) p.start (written_address.written4 p.start h.within))))
-    (len_bytes 32 p.len (omega (arith, h.short)))
-net_bytes (net.V6 p) h =
-    both (codes "ip6:" ++ ip6_text p.start) (written_len (codes "/") 128 p.len)
-    (both (codes "ip6:") (ip6_text p.start) refl (address_bytes (ip6_text p.start) (one_address.bytes6 (ip6_text p.start) p.start (written_address.written6 p.start h.within))))
-    (len_bytes 128 p.len h.short)
+net_bytes (net.V4 p) h = network_bytes V4 p h
+net_bytes (net.V6 p) h = network_bytes V6 p h
 net_bytes net.All h = refl
 
 qualifier_bytes : (v : Verdict) → HasStringBytes (written_qualifier v)

@@ -24,7 +24,7 @@ returns-clause-total c =
 pub returns-clause-list : goal.returns-clause-list
 returns-clause-list c =
     let both = both-is (verdict_at 32 c.args.leaves4.now) (verdict_at 128 c.args.leaves6.now) c.plus-both.result c.in_ok-four.four.needs c.in_ok-six.six.needs c.plus-both.ensures c.in_ok-four.ensures.needs c.in_ok-six.ensures.needs in
-    list-is (verdict_at 32 c.args.leaves4.now) (verdict_at 128 c.args.leaves6.now) c.plus-both.result c.verdict_of_all-verdict.result c.in_ok-terms4.terms4.items c.in_ok-terms6.terms6.items c.new-list.result c.push_four.new.list c.push_six.new.list c.push_all.new.list
+    list-is (verdict_at 32 c.args.leaves4.now) (verdict_at 128 c.args.leaves6.now) c.plus-both.result c.verdict_of_all-verdict.result c.in_ok-terms4.terms4.items c.in_ok-terms6.terms6.items c.new-list.result c.push_terms.new.list c.push_terms-2.new.list c.push_all.new.list
     both c.verdict_of_all-verdict.ensures c.in_ok-terms4.ensures c.in_ok-terms6.ensures c.new-list.ensures
-    (c.in_ok-push_four.ensures ∙ ap (λ xs. c.new-list.result ++ map (flat V4) xs) c.deref-3.ensures.value)
-    (c.in_ok-push_six.ensures ∙ ap (λ xs. c.push_four.new.list ++ map (flat V6) xs) c.deref-4.ensures.value) c.in_ok-push_all.ensures
+    (c.in_ok-push_terms.ensures ∙ ap (λ xs. c.new-list.result ++ map (flat V4) xs) c.deref-3.ensures.value)
+    (c.in_ok-push_terms-2.ensures ∙ ap (λ xs. c.push_terms.new.list ++ map (flat V6) xs) c.deref-4.ensures.value) c.in_ok-push_all.ensures

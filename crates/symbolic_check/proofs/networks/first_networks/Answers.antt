@@ -1,5 +1,6 @@
 use Rattle.std.specs.Prelude.{Option, if◌then◌else◌}
 use Rattle.std.proofs.Common.{◌≡◌, ◌+◌, ◌-◌, ◌<◌, Bool, true, false, List, ◌∷◌, Some, drop, length, arith, refl, sym, ap, ◌∙◌}
+use Rattle.addr_bits.specs.Address.{address_of}
 use Rattle.addr_bits.specs.declared.address.Address.{Address}
 use Rattle.spf_grammar.specs.declared.policy.Term.{Term}
 use Rattle.spf_grammar.specs.declared.policy.Term.TheVariants.{Directive, Redirect, Exp, Unknown}
@@ -21,7 +22,7 @@ with_first-next (Unknown name value) terms a = refl
 
 pub loop-i-preserved : goal.loop-i-preserved
 loop-i-preserved g c = λ a below.
-    let address = g.W.FamilyWidth.address a in
+    let address = address_of g.W.AddressFamily.family a in
     let terms = c.args.terms.now in
     let term = c.index-terms-i.result in
     let within : c.loop-i.i - 1 < length terms = omega arith in
@@ -32,4 +33,4 @@ loop-i-preserved g c = λ a below.
 pub returns : goal.returns
 returns g c = λ a below.
     let none : c.loop-i.i ≡ 0 = omega arith in
-    c.loop-i.invariant a below ∙ ap (λ n. Some (first_network (drop n c.args.terms.now) (g.W.FamilyWidth.address a))) none
+    c.loop-i.invariant a below ∙ ap (λ n. Some (first_network (drop n c.args.terms.now) (address_of g.W.AddressFamily.family a))) none

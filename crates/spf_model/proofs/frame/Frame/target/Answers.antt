@@ -12,5 +12,5 @@ use Rattle.spf_model.proofs.frame.Frame.target.Goals as goal
 pub returns-in-Needs : goal.returns-in-Needs
 returns-in-Needs c = rw c.in-Some.is
     (needed _ (site_of c.args.self.now) c.args.term c.in-Some.spec.now c.in-Needs.need c.open.result
-    (sym c.in-Needs.is ∙ c.in_ok-text.ensures ∙ ap (λ (family : Family). target family c.args.self.now.domain.now c.in-Some.spec.now) c.family_of.ensures)
+    (sym c.in-Needs.is ∙ c.in_ok-text.ensures ∙ ap (λ (family : Family). target family c.args.self.now.domain.now c.in-Some.spec.now) c.family.ensures)
     (c.open.ensures ∙ ap (λ (cause : Cause). Ended (Unsettled cause (at (site_of c.args.self.now) c.args.term))) c.cause_of.ensures))

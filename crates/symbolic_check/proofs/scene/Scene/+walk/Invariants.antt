@@ -1,4 +1,5 @@
 use Rattle.std.proofs.Common.{◌+◌, ◌*◌, ◌≤◌, length}
+use Rattle.addr_bits.specs.Address.{address_of}
 use Rattle.spf_model.specs.Run.{says}
 use Rattle.symbolic_check.proofs.Rows.{WalkedSoFar}
 use Rattle.symbolic_check.proofs.scene.Scene.+walk.Given as goal
@@ -23,4 +24,4 @@ decreases-walk_default g l = 6 * l.depth + 4
 
 abbrev pub invariant-walk_terms-loop-index : goal.invariant-walk_terms-loop-index
 invariant-walk_terms-loop-index g l = (l.index ≤ length l.terms)
-    × WalkedSoFar g.W.Width.BITS (says l.self.zones.now) g.W.FamilyWidth.address l.self l.depth l.terms l.initial.walked l.initial.asked l.start l.index l.number l.walked l.asked
+    × WalkedSoFar g.W.Width.BITS (says l.self.zones.now) (address_of g.W.AddressFamily.family) l.self l.depth l.terms l.initial.walked l.initial.asked l.start l.index l.number l.walked l.asked

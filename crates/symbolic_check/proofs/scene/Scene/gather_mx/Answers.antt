@@ -1,5 +1,6 @@
 use Rattle.std.proofs.Common.{option_map}
 use Rattle.std.proofs.lemmas.Result.{err_from_is_err_and}
+use Rattle.addr_bits.specs.Address.{address_of}
 use Rattle.spf_model.specs.Run.{says}
 use Rattle.symbolic_check.proofs.Gathering.{mx_stops, mx_unanswered, mx_gathers}
 use Rattle.symbolic_check.proofs.scene.Scene.gather_mx.Goals as goal
@@ -8,17 +9,17 @@ pub returns-in_err-name : goal.returns-in_err-name
 returns-in_err-name g c =
     let p = err_from_is_err_and c.from_residual.result c.from_residual.ensures.1 in
     rw (p.1, p.2)
-    (mx_stops (says c.args.self.now.zones.now) c.args.self.now g.W.FamilyWidth.address c.args.term (option_map (λ s. s.now) c.args.spec) c.in_err-name.field-0.0 c.args.asked.now
+    (mx_stops (says c.args.self.now.zones.now) c.args.self.now (address_of g.W.AddressFamily.family) c.args.term (option_map (λ s. s.now) c.args.spec) c.in_err-name.field-0.0 c.args.asked.now
     (c.in_err-name.ensures c.args.asked.now))
 
 pub returns-in_err-found : goal.returns-in_err-found
 returns-in_err-found g c =
     let p = err_from_is_err_and c.from_residual-in_err-found.result c.from_residual-in_err-found.ensures.1 in
     rw (p.1, p.2)
-    (mx_unanswered (says c.args.self.now.zones.now) c.args.self.now g.W.FamilyWidth.address c.args.term (option_map (λ s. s.now) c.args.spec) c.in_ok-name.name c.in_err-found.field-0.0
+    (mx_unanswered (says c.args.self.now.zones.now) c.args.self.now (address_of g.W.AddressFamily.family) c.args.term (option_map (λ s. s.now) c.args.spec) c.in_ok-name.name c.in_err-found.field-0.0
     c.args.asked.now c.ask.new.asked (c.in_ok-name.ensures c.args.asked.now) c.in_err-found.ensures)
 
 pub returns : goal.returns
 returns g c =
-    mx_gathers (says c.args.self.now.zones.now) c.args.self.now g.W.FamilyWidth.address c.args.term (option_map (λ s. s.now) c.args.spec) c.in_ok-name.name c.in_ok-found.found c.gather_exchanges.result
+    mx_gathers (says c.args.self.now.zones.now) c.args.self.now (address_of g.W.AddressFamily.family) c.args.term (option_map (λ s. s.now) c.args.spec) c.in_ok-name.name c.in_ok-found.found c.gather_exchanges.result
     c.args.asked.now c.ask.new.asked c.gather_exchanges.new.asked (c.in_ok-name.ensures c.args.asked.now) c.in_ok-found.ensures c.gather_exchanges.ensures

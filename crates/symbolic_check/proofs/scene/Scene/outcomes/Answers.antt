@@ -1,4 +1,5 @@
 use Rattle.std.proofs.lemmas.Result.{IfOk-weaker}
+use Rattle.addr_bits.specs.Address.{address_of}
 use Rattle.spf_model.specs.Run.{says}
 use Rattle.symbolic_check.proofs.Families.{family_ends}
 use Rattle.symbolic_check.proofs.scene.Scene.outcomes.Goals as goal
@@ -6,6 +7,6 @@ use Rattle.symbolic_check.proofs.scene.Scene.outcomes.Goals as goal
 pub returns : goal.returns
 returns g c =
     IfOk-weaker c.outcomes.result _ _
-    (λ ends made. family_ends g.W.Width.BITS (says c.args.self.now.zones.now) g.W.FamilyWidth.address c.args.self.now
+    (λ ends made. family_ends g.W.Width.BITS (says c.args.self.now.zones.now) (address_of g.W.AddressFamily.family) c.args.self.now
     c.in_ok-begin.begin c.in_ok-end.end ends c.args.asked.now c.walk_record.new.asked c.in_ok-begin.ensures.value c.in_ok-end.ensures made)
     c.outcomes.ensures

@@ -1,3 +1,4 @@
+use Rattle.addr_bits.specs.Address.{address_of}
 use Rattle.spf_model.specs.Run.{says}
 use Rattle.symbolic_check.proofs.Combining.{if_ok_by}
 use Rattle.symbolic_check.proofs.Gathering.{exists_part}
@@ -7,13 +8,13 @@ use Rattle.symbolic_check.proofs.scene.Scene.walk_exists.Goals as goal
 
 pub returns-then-not-is_some_live : goal.returns-then-not-is_some_live
 returns-then-not-is_some_live g c = λ depth.
-    exists_walk g.W.Width.BITS (says c.args.self.now.zones.now) c.args.self.now g.W.FamilyWidth.address depth c.args.term c.args.verdict c.args.spec.now
+    exists_walk g.W.Width.BITS (says c.args.self.now.zones.now) c.args.self.now (address_of g.W.AddressFamily.family) depth c.args.term c.args.verdict c.args.spec.now
     c.args.states c.in_ok-counted.counted c.in_ok-counted.counted c.args.asked.now c.args.asked.now (c.in_ok-counted.ensures c.args.asked.now)
     (walks_idle g.W.Width.BITS (says c.args.self.now.zones.now) _ c.in_ok-counted.counted c.args.asked.now c.if-not-is_some_live.ensures)
 
 pub returns : goal.returns
 returns g c = if_ok_by _ c.match_found.result c.match_found.ensures
     (λ new walks depth.
-    exists_walk g.W.Width.BITS (says c.args.self.now.zones.now) c.args.self.now g.W.FamilyWidth.address depth c.args.term c.args.verdict c.args.spec.now
+    exists_walk g.W.Width.BITS (says c.args.self.now.zones.now) c.args.self.now (address_of g.W.AddressFamily.family) depth c.args.term c.args.verdict c.args.spec.now
     c.args.states c.in_ok-counted.counted new c.args.asked.now c.gather_exists-found.new.asked (c.in_ok-counted.ensures c.args.asked.now)
-    (walks (exists_part c.args.self.now g.W.FamilyWidth.address c.args.term c.args.spec.now) c.args.asked.now c.gather_exists-found.new.asked c.gather_exists-found.ensures c.if-not-is_some_live.ensures))
+    (walks (exists_part c.args.self.now (address_of g.W.AddressFamily.family) c.args.term c.args.spec.now) c.args.asked.now c.gather_exists-found.new.asked c.gather_exists-found.ensures c.if-not-is_some_live.ensures))
