@@ -1,5 +1,5 @@
 -- What is due, step by step.
-use Rattle.std.proofs.Common.{◌≡◌, ◌<◌, ◌≤◌, ◌+◌, ℕ, Bool, true, false, IsFalse, nat_lt, List, length, Result, Ok, Err, IfOk, IfErr, refl, ap, ◌∙◌, subst, arith}
+use Rattle.std.proofs.Common.{◌≡◌, ◌<◌, ◌≤◌, ◌+◌, ℕ, Bool, true, false, IsFalse, nat_lt, List, length, Result, Ok, Err, IfOk, refl, ap, ◌∙◌, subst, arith}
 use Rattle.std.proofs.lemmas.Bool.{ltb-true, ltb-false}
 use Rattle.addr_bits.specs.Prefix.{Cidr}
 use Rattle.zone_answers.specs.Names.{has_own_alias, other_text_of}
@@ -12,23 +12,11 @@ use Rattle.fewest_terms.specs.Leaves.{verdict_at as trie_verdict}
 use Rattle.fewest_terms.specs.Row.{NeedRow}
 use Rattle.fewest_terms.specs.Tables.{need_rows}
 use Rattle.fewest_terms.specs.Totals.{total}
-use Rattle.loading.specs.Memory.{ErrorIs}
-use Rattle.loading.specs.declared.memory.OrMemory.{OrMemory}
-use Rattle.loading.specs.declared.memory.OrMemory.TheVariants.{Error, Memory}
 use Rattle.loading.specs.declared.refusal.Refusal.{Refusal}
 use Rattle.publishing.specs.Policy.{IsRefusedAddress, KeepVerdicts, PolicyDue, refused, kept}
 use Rattle.publishing.specs.Published.{IsChosenCut, IsTooBig, IsFirstTakenRefusal, is_record_taken}
 use Rattle.publishing.specs.Published.{ListDue, too_big, taken, PublicationDue, packed}
 use Rattle.publishing.specs.declared.settings.ChainSettings.{ChainSettings}
-
--- ---- an error that is one of another kind too
-pub error_also : {E : Type 0} {P Q : E → Type 0} → ((e : E) → P e → Q e) → (o : OrMemory E) → ErrorIs P o → ErrorIs Q o
-error_also {E} {P} {Q} also (Error e) h = also e h
-error_also {E} {P} {Q} also Memory h = tt
-
-pub errors_also : {A E : Type 0} {P Q : E → Type 0} → ((e : E) → P e → Q e) → (r : Result A (OrMemory E)) → IfErr r (ErrorIs P) → IfErr r (ErrorIs Q)
-errors_also {A} {E} {P} {Q} also (Ok a) h = tt
-errors_also {A} {E} {P} {Q} also (Err o) h = error_also also o h
 
 -- ---- from the list to the verdicts
 -- a list, its rows and its total, as they are chosen

@@ -1,10 +1,11 @@
 use Rattle.std.proofs.Common.{rules}
-use Rattle.publishing.proofs.PublicationLemmas.{error_also, errors_also, policy_refused, policy_written, policy_stopped}
+use Rattle.loading.proofs.StopLemmas.{error_also, result_also}
+use Rattle.publishing.proofs.PublicationLemmas.{policy_refused, policy_written, policy_stopped}
 use Rattle.publishing.proofs.policy.publish_policy.Goals as goal
 
 pub returns-in_err-tries-clause-refused : goal.returns-in_err-tries-clause-refused
 returns-in_err-tries-clause-refused c =
-    let stops = error_also (policy_refused c.args.settings.now c.args.limits c.args.zones.now) c.in_err-tries.field-0.0
+    let stops = error_also _ _ (policy_refused c.args.settings.now c.args.limits c.args.zones.now) c.in_err-tries.field-0.0
     (rw c.as_slice.ensures at c.in_err-tries.ensures.refused) in
     search (rules, stops)
 
@@ -15,5 +16,5 @@ returns-clause-written c =
 
 pub returns-clause-refused : goal.returns-clause-refused
 returns-clause-refused c =
-    errors_also (policy_stopped c.args.settings.now c.args.limits c.args.zones.now c.in_ok-tries.tries.v4 c.in_ok-tries.tries.v6
+    result_also _ _ (policy_stopped c.args.settings.now c.args.limits c.args.zones.now c.in_ok-tries.tries.v4 c.in_ok-tries.tries.v6
     (rw c.as_slice.ensures at c.in_ok-tries.ensures.kept)) c.publish.result c.publish.ensures.refused
