@@ -4,8 +4,6 @@
 mod check;
 mod laws;
 mod lines;
-#[cfg(test)]
-mod tests;
 
 pub use check::check_row;
 pub use laws::table_bounds;

@@ -10,6 +10,3 @@ mod printed;
 pub use fault::NameFault;
 pub use label::{MAX_LABEL, without_final_dot};
 pub use name::Name;
-
-#[cfg(test)]
-mod tests;

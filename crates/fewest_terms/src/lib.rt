@@ -19,6 +19,3 @@ use spf_grammar::FlatTerm;
 
 /// A list of flat terms, of which the first that has an address decides.
 pub type FlatList = Items<FlatTerm>;
-
-#[cfg(test)]
-mod tests;

@@ -13,6 +13,3 @@ pub use cutter::Cutter;
 pub use entry::{Entry, Octet, Token, Tokens, Units};
 pub use fault::{LexFault, LexKind};
 pub use lexer::Lexer;
-
-#[cfg(test)]
-mod tests;

@@ -16,6 +16,3 @@ pub use data::{MAX_STRING, MAX_TEXT};
 pub use fault::{Kind, ZoneFault};
 pub use reader::{Reader, read_zone};
 pub use record::{Body, Record, Records, Text};
-
-#[cfg(test)]
-mod tests;

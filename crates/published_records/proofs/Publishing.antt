@@ -22,6 +22,7 @@ use Rattle.spf_model.specs.Judging.{Labels, name_of}
 use Rattle.spf_model.specs.Result.{AllHave, Gives}
 use Rattle.spf_model.specs.Run.{Answering, EndsWith, Run, says}
 use Rattle.spf_model.proofs.Chains.{chains_give_first}
+use Rattle.spf_model.proofs.OneOutcome.{some_once}
 use Rattle.record_pack.specs.Records.{RiseTo, piece, pieces_from}
 use Rattle.zone_writer.proofs.Fragments.{fragment_is_read}
 use Rattle.published_records.specs.Chain.{AllHavePrefixes}
@@ -31,10 +32,6 @@ use Rattle.zone_writer.proofs.Texts.{prefixes_piece}
 use Rattle.published_records.proofs.RecordChains.{records_are_chain, unfolded}
 use Rattle.published_records.proofs.StandingAlone.{length_pieces, records_stand_alone}
 use Rattle.published_records.proofs.StandingPatched.{records_stand_patched}
-
--- what is found is one thing
-pub some_once : {A : Type 0} {found : Option A} {a b : A} → found ≡ Some a → found ≡ Some b → a ≡ b
-some_once p q = cc
 
 -- ---- the zone that holds the domain, where each address has a verdict
 

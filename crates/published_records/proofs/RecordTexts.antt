@@ -1,11 +1,10 @@
 -- The texts of records spell their terms and their redirects.
-use Rattle.std.proofs.Common.{◌≡◌, ℕ, ◌+◌, ◌<◌, ◌≤◌, ◌^◌, ◌==◌, Bool, true, false, cond, IsTrue, inl, inr, List, [], ◌∷◌, ◌++◌, length, map, count_by, filter, refl, sym, ap, subst, ◌∙◌, arith, append_assoc, append-nil, Option, eqb-true}
-use Rattle.std.specs.Prelude.{codes, decimal}
+use Rattle.std.proofs.Common.{◌≡◌, ℕ, ◌+◌, ◌≤◌, Bool, true, false, cond, IsTrue, inl, List, [], ◌∷◌, ◌++◌, length, map, count_by, filter, refl, sym, ap, subst, ◌∙◌, arith, append_assoc, append-nil, Option}
+use Rattle.std.specs.Prelude.{codes}
 use Rattle.std.specs.List.{list_all}
 use Rattle.std.proofs.lemmas.Bool.{and_parts}
 use Rattle.std.proofs.lemmas.List.Folds.{list_all-append}
 use Rattle.std.proofs.lemmas.List.Sums.{length-filter}
-use Rattle.addr_bits.specs.Prefix.{Cidr, IsCidr}
 use Rattle.addr_bits.specs.declared.address.Family.{Family}
 use Rattle.addr_bits.specs.declared.address.Family.TheVariants.{V4, V6}
 use Rattle.addr_bits.specs.Ip4.{ip4_text}
@@ -22,7 +21,7 @@ use Rattle.spf_macros.specs.Words.{is_domain, is_label}
 use Rattle.spf_macros.proofs.MacroTexts.{host_spells}
 use Rattle.spf_macros.proofs.TargetTexts.{short_stays}
 use Rattle.spf_grammar.specs.Families.{HasPrefix, HavePrefixes}
-use Rattle.spf_grammar.specs.Grammar.{SpellsLen, SpellsMechanism, SpellsNetwork, SpellsQualifier, SpellsTerm, SpellsTerms, is_redirect, is_exp}
+use Rattle.spf_grammar.specs.Grammar.{SpellsMechanism, SpellsQualifier, SpellsTerm, SpellsTerms, is_redirect, is_exp}
 use Rattle.spf_grammar.specs.Written.{written_flat, written_len, written_net, written_qualifier}
 use Rattle.spf_grammar.specs.declared.flat.FlatTerm.{FlatTerm}
 use Rattle.spf_grammar.specs.declared.flat.Net.{Net}

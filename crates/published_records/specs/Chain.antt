@@ -34,9 +34,11 @@ next_redirect domain label k false = Some (next_spec domain label k)
 abbrev pub RecordsSpell : Type 0
 RecordsSpell = (domain label : List ℕ) (terms : List FlatTerm) (k : ℕ) (last : Bool)
     → IsTrue (is_domain domain) → IsTrue (is_label label) → k ≤ 10 → HavePrefixes terms
-    → SpellsPolicy (record_text domain label terms k last) (record { terms = directives_of terms (redirect_terms (next_redirect domain label k last)) })
+    → SpellsPolicy (record_text domain label terms k last)
+    (record { terms = directives_of terms (redirect_terms (next_redirect domain label k last)) })
 
--- RFC 7208, sections 4.8 and 7.3: the redirect of record k leads to the name of the next record, for addresses of either family
+-- RFC 7208, sections 4.8 and 7.3: the redirect of record k leads to the name of the next record, for addresses of either
+-- family
 abbrev pub RecordsLeadOn : Type 0
 RecordsLeadOn = (domain label : List ℕ) (k : ℕ) (family : Family) (at : List ℕ)
     → IsTrue (is_domain domain) → IsTrue (is_label label) → k ≤ 10 → length (record_name domain label (k + 1)) ≤ 253
@@ -49,10 +51,12 @@ pub record Holds (zones : Answering) (name : List (List ℕ)) (text : List ℕ) 
   pub alone : filter_map spf_text_of bodies ≡ text ∷ []
 
 -- the records with these terms stand at their names, from record k on
-abbrev pub HoldRecords : Answering → (domain label : List ℕ) → (name : List (List ℕ)) → (k : ℕ) → List (List FlatTerm) → Type 0
+abbrev pub HoldRecords : Answering → (domain label : List ℕ) → (name : List (List ℕ)) → (k : ℕ) → List (List FlatTerm)
+    → Type 0
 HoldRecords zones domain label name k [] = Unit {0}
 HoldRecords zones domain label name k (terms ∷ lists) =
-    Holds zones (record_owner name label k) (record_text domain label terms k (is_none lists)) × HoldRecords zones domain label name (k + 1) lists
+    Holds zones (record_owner name label k) (record_text domain label terms k (is_none lists))
+    × HoldRecords zones domain label name (k + 1) lists
 
 -- the terms of each record have prefixes of their families
 abbrev pub AllHavePrefixes : List (List FlatTerm) → Type 0
@@ -61,6 +65,6 @@ AllHavePrefixes (terms ∷ lists) = HavePrefixes terms × AllHavePrefixes lists
 
 -- RFC 7208, section 6.1: records that stand at their names are a chain from the domain on
 abbrev pub RecordsAreChain : Type 0
-RecordsAreChain = (zones : Answering) (domain label : List ℕ) (name : List (List ℕ)) (terms : List FlatTerm) (lists : List (List FlatTerm))
-    → AreChainWords domain label → name_of_text domain ≡ Ok name → length lists ≤ 10 → AllHavePrefixes (terms ∷ lists)
+RecordsAreChain = (zones : Answering) (domain label : List ℕ) (name : List (List ℕ)) (terms : List FlatTerm)
+    (lists : List (List FlatTerm)) → AreChainWords domain label → name_of_text domain ≡ Ok name → length lists ≤ 10 → AllHavePrefixes (terms ∷ lists)
     → HoldRecords zones domain label name 0 (terms ∷ lists) → IsChain zones domain name (terms ∷ lists)

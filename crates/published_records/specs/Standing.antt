@@ -20,27 +20,31 @@ is_spf_record name r = same_name r.owner name && is_some (spf_text_of r.body)
 -- the zone without the SPF texts at the name, and with these records behind its others
 abbrev pub patched_zone : (name : List (List ℕ)) → List Record → Zone → Zone
 patched_zone name records zone =
-    record { origin = zone.origin; records = distinct_records (filter (λ r. not (is_spf_record name r)) zone.records ++ records) }
+    let kept = filter (λ r. not (is_spf_record name r)) zone.records in
+    record { origin = zone.origin; records = distinct_records (kept ++ records) }
 
 -- whether the zone is the one that holds the name
 abbrev pub is_holder : Option Zone → Zone → Bool
 is_holder None zone = false
 is_holder (Some holder) zone = same_name zone.origin holder.origin
 
--- the zones that were read, of which the one that holds the name is patched. No limit on the number of records is asked of them
+-- the zones that were read, of which the one that holds the name is patched. No limit on the number of records is asked of
+-- them
 abbrev pub patched : (zones : List Zone) → (name : List (List ℕ)) → List Record → List Zone
-patched zones name records = map (λ zone. if is_holder (zone_of zones name) zone then patched_zone name records zone else zone) zones
+patched zones name records =
+    map (λ zone. if is_holder (zone_of zones name) zone then patched_zone name records zone else zone) zones
 
 -- the records of a cut that fits may be lent alone, as the zone of the domain, and stand at their names there
 pub record StandAlone (domain label : List ℕ) (name : List (List ℕ)) (lists : List (List FlatTerm)) : Type 0 where
   pub lendable : AreLendable name (written_records domain label name 0 lists)
   pub lent : IsLent [] name (written_records domain label name 0 lists)
-  pub hold : HoldRecords (says (with_zone [] name (written_records domain label name 0 lists))) domain label name 0 lists
+  pub hold : HoldRecords (says (with_zone [] name (written_records domain label name 0 lists)))
+      domain label name 0 lists
 
 -- so it is for each cut that fits
 abbrev pub RecordsStandAlone : Type 0
-RecordsStandAlone = (domain label : List ℕ) (size others : ℕ) (list : List FlatTerm) (ends : List ℕ) (name : List (List ℕ))
-    → size ≤ 4096 → IsFittingCut domain label size others list ends
+RecordsStandAlone = (domain label : List ℕ) (size others : ℕ) (list : List FlatTerm) (ends : List ℕ)
+    (name : List (List ℕ)) → size ≤ 4096 → IsFittingCut domain label size others list ends
     → StandAlone domain label name (pieces_from list 0 ends)
 
 -- the zone that holds the name, where the name lies below no delegation of it

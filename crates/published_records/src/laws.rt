@@ -18,9 +18,9 @@ pub fn records_are_chain()
     ensures { RecordsAreChain }
 {}
 
-/// The records of a cut that stand at their names, in whatever zones, give each address the verdict of the list, under the
-/// limits of a mail receiver, by fewer lookups than there are records, so by at most 10, and by no void lookup (RFC 7208,
-/// section 4.6.4).
+/// The records of a cut that stand at their names, in whatever zones, give each address the verdict of the list, under
+/// the limits of a mail receiver, by fewer lookups than there are records, so by at most 10, and by no void lookup
+/// (RFC 7208, section 4.6.4).
 pub fn records_give()
     ensures { RecordsGive }
 {}
@@ -37,8 +37,8 @@ pub fn records_stand_patched()
 {}
 
 /// The fragment of a cut that fits is read as its records, which give each address the verdict of the list as
-/// [`records_give`] says, alone and in the zones that were read, where one of these holds the domain, below no delegation and
-/// without an alias, and the other names are free.
+/// [`records_give`] says, alone and in the zones that were read, where one of these holds the domain, below no
+/// delegation and without an alias, and the other names are free.
 pub fn fragment_stands()
     ensures { FragmentStands }
 {}

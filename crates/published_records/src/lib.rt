@@ -1,5 +1,5 @@
-//! Laws of published records: what their texts spell, where they stand, and what check_host gives over them. They speak of no
-//! file, sink or job.
+//! Laws of published records: what their texts spell, where they stand, and what check_host gives over them. They speak
+//! of no file, sink or job.
 #![tactic(auto)]
 
 mod laws;

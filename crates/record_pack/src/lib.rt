@@ -6,8 +6,6 @@ mod fault;
 mod fit;
 mod greedy;
 mod name;
-#[cfg(test)]
-mod tests;
 
 pub use cut::{Cut, Ends};
 pub use fault::PackFault;

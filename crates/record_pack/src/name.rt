@@ -6,8 +6,8 @@ use addr_bits::Bytes;
 use itoa::Buffer;
 use std::alloc::AllocError;
 
-/// Appends the name of the record of this number, which is not 0: the label, the number, a dot and the domain. Where there
-/// is no memory, the text stays as it was.
+/// Appends the name of the record of this number, which is not 0: the label, the number, a dot and the domain. Where
+/// there is no memory, the text stays as it was.
 pub fn push_name(
     text: &mut Bytes,
     domain: &[u8],

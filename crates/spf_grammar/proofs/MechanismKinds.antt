@@ -32,7 +32,7 @@ of_kind text (Ip4 p) h = (p, h)
 of_kind text (Ip6 p) h = (p, h)
 of_kind text (Exists spec) h = (spec, h)
 
-pub behind : (k : Keyword) (text : List ℕ) (m : Mechanism) → SpellsBehind k text m → IsBehind k text
+behind : (k : Keyword) (text : List ℕ) (m : Mechanism) → SpellsBehind k text m → IsBehind k text
 behind k text m h = subst (λ word. IsBehind word text) h.0 (of_kind text m h.1)
 
 pub no_include : (text : List ℕ) → ((spec : List Piece) → ¬ SpellsRequired text spec) → (m : Mechanism) → SpellsBehind keyword.Include text m → ⊥
@@ -49,9 +49,3 @@ no_mx text none m h = let b = behind keyword.Mx text m h in none b.0 b.1
 
 pub no_ptr : (text : List ℕ) → ((spec : Option (List Piece)) → ¬ SpellsTarget text spec) → (m : Mechanism) → SpellsBehind keyword.Ptr text m → ⊥
 no_ptr text none m h = let b = behind keyword.Ptr text m h in none b.0 b.1
-
-pub no_ip4 : (text : List ℕ) → ((p : Cidr) → ¬ SpellsNetwork V4 p text) → (m : Mechanism) → SpellsBehind keyword.Ip4 text m → ⊥
-no_ip4 text none m h = let b = behind keyword.Ip4 text m h in none b.0 b.1
-
-pub no_ip6 : (text : List ℕ) → ((p : Cidr) → ¬ SpellsNetwork V6 p text) → (m : Mechanism) → SpellsBehind keyword.Ip6 text m → ⊥
-no_ip6 text none m h = let b = behind keyword.Ip6 text m h in none b.0 b.1

@@ -12,11 +12,7 @@ mod mechanisms;
 mod networks;
 mod policy;
 mod reader;
-#[cfg(test)]
-mod record_tests;
 mod terms;
-#[cfg(test)]
-mod tests;
 mod verdict;
 mod writer;
 mod written;

@@ -4,7 +4,7 @@ ghost use Rattle.arrayvec.specs.ArrayString.{array_string_len};
 ghost use Rattle.spf_grammar.specs.Written.{written_qualifier, written_len, network_word, written_network, written_net, written_flat as flat_text};
 
 use crate::{FlatTerm, Net, Verdict};
-use addr_bits::{AddressFamily, Family, Prefix, Width};
+use addr_bits::{AddressFamily, Family, Prefix};
 use arrayvec::ArrayString;
 use itoa::Buffer;
 

@@ -9,8 +9,6 @@ mod parts;
 mod piece;
 mod read;
 mod targets;
-#[cfg(test)]
-mod tests;
 mod toplabel;
 mod transformers;
 mod words;

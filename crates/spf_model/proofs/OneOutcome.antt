@@ -12,7 +12,8 @@ use Rattle.spf_model.specs.Result.{Gives}
 use Rattle.spf_model.specs.Check.{check_host}
 use Rattle.spf_model.proofs.RunLaws.{one_end}
 
-some_once : {A : Type 0} {found : Option A} {a b : A} → found ≡ Some a → found ≡ Some b → a ≡ b
+-- what is found is one thing
+pub some_once : {A : Type 0} {found : Option A} {a b : A} → found ≡ Some a → found ≡ Some b → a ≡ b
 some_once p q = cc
 
 pub one_outcome : (zones : Answering) (limits : Limits) (domain : List ℕ) (a : Address) (o p : Outcome) → Gives zones limits domain a o → Gives zones limits domain a p → o ≡ p

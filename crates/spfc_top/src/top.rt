@@ -34,7 +34,8 @@ pub fn run<F: Files, K: Sink, E: Sink>(
 
     // That output is the best that the job can have: of `compile`, a shortest list with the verdicts of check_host, in
     // records that fit, of which no cut that fits has fewer, and whose names are free. The bytes are read as these
-    // records, over which alone, and over the zones with them in place, check_host gives each address the same verdict.
+    // records, over which alone, and over the zones with them in place, check_host gives each address the same verdict,
+    // by at most 10 lookups and no void lookup.
     ensures best { result ≡ 0 → HasBest jobs (turn words.now
         (step F.seen files.old files.new) (step K.seen out.old out.new) (step E.seen err.old err.new)) }
 

@@ -3,7 +3,6 @@
 
 mod asked;
 mod both;
-mod failure;
 mod gathered;
 mod hosts;
 mod laws;
@@ -11,8 +10,6 @@ mod networks;
 mod scene;
 mod state;
 mod steps;
-#[cfg(test)]
-mod tests;
 mod walk;
 
 pub use both::{Both, evaluate};

@@ -24,11 +24,7 @@ verdict_of_outcome (Some (Unsettled cause place)) found h e = absurd (false≢tr
 pub has_outcome : (outcome : Option Outcome) (found : Option Verdict) → IsVerdictOf outcome found → IsSomeAnd outcome (λ o. has_verdict o ≡ true)
 has_outcome outcome found h = subst (λ o. IsSomeAnd o (λ o. has_verdict o ≡ true)) (sym h.1) refl
 
--- the refusal of one family as one of both
-pub refused_four : (v4 v6 : List (Cidr × Outcome)) (fault : VerdictFault) → IsFamilyFault family.V4 32 v4 fault → IsFault v4 v6 fault
-refused_four v4 v6 (Refused address outcome) h = subst (λ a. IsRefused v4 v6 a outcome) (sym h.1) h.2
-refused_four v4 v6 Memory h = tt
-
+-- a refusal of IPv6, where IPv4 has none
 pub refused_six : (v4 v6 : List (Cidr × Outcome)) (fault : VerdictFault) → HaveVerdicts 32 v4 → IsFamilyFault family.V6 128 v6 fault → IsFault v4 v6 fault
 refused_six v4 v6 (Refused address outcome) all h = subst (λ a. IsRefused v4 v6 a outcome) (sym h.1) (all, h.2)
 refused_six v4 v6 Memory all h = tt

@@ -3,8 +3,6 @@
 
 mod laws;
 mod record;
-#[cfg(test)]
-mod tests;
 mod zone;
 
 pub use laws::fragment_is_read;

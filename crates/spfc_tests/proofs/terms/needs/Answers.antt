@@ -1,7 +1,7 @@
 use Rattle.std.proofs.Common.{◌<◌, ◌^◌, arith}
 use Rattle.spf_grammar.specs.declared.verdict.Verdict.TheVariants.{Fail, SoftFail, Pass, Neutral}
 use Rattle.fewest_terms.specs.Tables.{number}
-use Rattle.bound_table.proofs.tests.needs.Goals as goal
+use Rattle.spfc_tests.proofs.terms.needs.Goals as goal
 
 pub returns : goal.returns
 returns c = λ x.

@@ -1,0 +1,19 @@
+//! Tests over the public calls of the crates below.
+#![tactic(auto)]
+
+#[cfg(test)]
+mod files;
+#[cfg(test)]
+mod jobs;
+#[cfg(test)]
+mod outside;
+#[cfg(test)]
+mod questions;
+#[cfg(test)]
+mod rows;
+#[cfg(test)]
+mod terms;
+#[cfg(test)]
+mod texts;
+#[cfg(test)]
+mod tries;
