@@ -61,9 +61,9 @@ pub data PolicyDue (settings : ChainSettings) (limits : Limits) (zones : List Zo
       → PublicationDue settings zones v4 v6 due → PolicyDue settings limits zones due
 
 -- RFC 7208, section 4: the bytes are a best publication of the verdicts that check_host gives over the zones. Its list
--- gives each address the verdict that check_host gives it, and no list that does has fewer terms. Its records stand where
--- they are published: the bytes are read as them, and over them alone, and over the zones with them in place, check_host
--- gives each address the same verdict, within the limits of a mail receiver
+-- gives each address the verdict that check_host gives it, and no list that does has fewer terms. Its records stand
+-- where they are published: the bytes are read as them, and over them alone, and over the zones with them in place,
+-- check_host gives each address the same verdict, within the limits of a mail receiver
 pub record IsShortest (settings : ChainSettings) (limits : Limits) (zones : List Zone) (bytes : List ℕ) : Type 0 where
   pub v4 : ℕ → Verdict
   pub v6 : ℕ → Verdict
