@@ -6,6 +6,7 @@ use Rattle.std.proofs.lemmas.Bool.{and_parts}
 use Rattle.std.proofs.lemmas.List.Folds.{list_all-append}
 use Rattle.std.proofs.lemmas.List.Sums.{length-filter}
 use Rattle.addr_bits.specs.Prefix.{Cidr, IsCidr}
+use Rattle.addr_bits.specs.declared.address.Family.{Family}
 use Rattle.addr_bits.specs.declared.address.Family.TheVariants.{V4, V6}
 use Rattle.addr_bits.specs.Ip4.{ip4_text}
 use Rattle.addr_bits.specs.Ip6.{ip6_text}

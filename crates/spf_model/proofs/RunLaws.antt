@@ -5,7 +5,7 @@ use Rattle.spf_grammar.specs.Grammar.{ReadAs}
 use Rattle.spf_model.specs.declared.outcome.Counts.{Counts}
 use Rattle.spf_model.specs.declared.outcome.Outcome.{Outcome}
 use Rattle.spf_model.specs.Run.{Run, Ends, Asks, Reads, Answering, EndsWith, AsksFor, then_do}
-use Rattle.spf_model.specs.Laws.{SameAnswers, RestsOnItsQuestions, OneEnd}
+use Rattle.spf_model.specs.Laws.{SameAnswers, RestsOnItsQuestions}
 use Rattle.spf_grammar.specs.Laws.{OnePolicy}
 use Rattle.spf_grammar.specs.declared.policy.Policy.{Policy}
 
@@ -108,7 +108,7 @@ read_once one text (Some p) None h g = absurd (g p h)
 read_once one text (Some p) (Some q) h g = ap Some (one text p q h g)
 
 -- so a run ends in one way
-pub one_end : OnePolicy → OneEnd
+pub one_end : OnePolicy → (zones : Answering) (run : Run) (o p : Outcome) (c d : Counts) → EndsWith zones run o c → EndsWith zones run p d → (o ≡ p) × (c ≡ d)
 one_end one zones (Ends x y) o p c d h g = (h.0 ∙ sym g.0, h.1 ∙ sym g.1)
 one_end one zones (Asks question next) o p c d h g = one_end one zones (next (zones question)) o p c d h g
 one_end one zones (Reads text next) o p c d h g =

@@ -1,12 +1,12 @@
 -- The laws of check_host, as statements.
-use Rattle.std.specs.Prelude.{◌≡◌, ℕ, ◌+◌, ◌<◌, ◌≤◌, ◌↔◌, suc, List, length}
+use Rattle.std.specs.Prelude.{◌≡◌, ℕ, ◌+◌, ◌<◌, ◌≤◌, ◌↔◌, suc, List, length, Contains}
 use Rattle.addr_bits.specs.declared.address.Address.{Address}
 use Rattle.spf_model.specs.Judging.{Labels}
 use Rattle.zone_answers.specs.declared.answer.Question.{Question}
 use Rattle.spf_model.specs.declared.outcome.Limits.{Limits}
 use Rattle.spf_model.specs.declared.outcome.Counts.{Counts}
 use Rattle.spf_model.specs.declared.outcome.Outcome.{Outcome}
-use Rattle.spf_model.specs.Run.{Run, Answering, EndsWith, AsksFor}
+use Rattle.spf_model.specs.Run.{Run, Answering, EndsWith, AsksFor, IsDialogue}
 use Rattle.spf_model.specs.Check.{check}
 use Rattle.spf_model.specs.Chains.{IsChain, GivesFlat}
 use Rattle.spf_grammar.specs.declared.flat.FlatTerm.{FlatTerm}
@@ -22,9 +22,18 @@ pub record RestsOnItsQuestions : Type 0 where
   pub asks : (zones others : Answering) (run : Run) (question : Question)
       → SameAnswers zones others run → AsksFor zones run question → AsksFor others run question
 
--- a run ends in one way
-abbrev pub OneEnd : Type 0
-OneEnd = (zones : Answering) (run : Run) (o p : Outcome) (c d : Counts) → EndsWith zones run o c → EndsWith zones run p d → (o ≡ p) × (c ≡ d)
+-- a run is one dialogue: it has one list of questions, in one order, and one outcome with its counts, and no run has none. It ends as
+-- its dialogue does, and the questions that it asks are those of the list
+pub record OneEnd : Type 0 where
+  pub one : (zones : Answering) (run : Run) (questions others : List Question) (o p : Outcome) (c d : Counts)
+      → IsDialogue zones run questions o c → IsDialogue zones run others p d → (questions ≡ others) × (o ≡ p) × (c ≡ d)
+  pub never_none : (zones : Answering) (run : Run)
+      → ¬ ((questions : List Question) (o : Outcome) (c : Counts) → ¬ IsDialogue zones run questions o c)
+  pub ends : (zones : Answering) (run : Run) (o : Outcome) (c : Counts)
+      → EndsWith zones run o c ↔ ((questions : List Question) × IsDialogue zones run questions o c)
+  pub asks : (zones : Answering) (run : Run) (questions : List Question) (o : Outcome) (c : Counts)
+      → IsDialogue zones run questions o c → (question : Question) → AsksFor zones run question ↔ Contains questions question
+  pub one_end : (zones : Answering) (run : Run) (o p : Outcome) (c d : Counts) → EndsWith zones run o c → EndsWith zones run p d → (o ≡ p) × (c ≡ d)
 
 -- the measure of the recursion: where the depth is more than the lookups that are left, more depth changes nothing
 abbrev pub DepthSuffices : Type 0

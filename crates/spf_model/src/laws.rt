@@ -1,7 +1,8 @@
 //! What holds of every evaluation. The functions do nothing: what they promise is the law.
 ghost use Rattle.spf_model.specs.Laws.{ChainsGiveFirst, DepthSuffices, OneEnd, RestsOnItsQuestions};
 
-/// An evaluation ends in one way.
+/// An evaluation has one list of questions, in one order, and one outcome with its counts, and none has none (RFC 7208,
+/// section 4).
 pub fn one_end()
     ensures { OneEnd }
 {}
