@@ -2,6 +2,7 @@ pub mod Run
 pub mod Judging
 pub mod Check
 pub mod Result
+pub mod Endings
 pub mod Leads
 pub mod Chains
 pub mod Laws

@@ -2,6 +2,8 @@
 #![tactic(auto)]
 
 mod check;
+mod ending;
+mod failure;
 mod frame;
 mod hosts;
 mod laws;
@@ -12,6 +14,8 @@ mod record;
 mod tests;
 
 pub use check::{check_one, redirect_of};
+pub use ending::Ending;
+pub use failure::Failure;
 pub use frame::{cause_of, name_of};
 pub use hosts::{Lens, exchanges_of, is_void};
 pub use laws::{chains_give_first, depth_suffices, one_end, rests_on_its_questions};

@@ -14,7 +14,7 @@ use crate::steps;
 use dns_name::Name;
 use prefix_trie::TrieMap;
 use spf_grammar::NetworkFamily;
-use spf_model::{Counts, Limits, Outcome};
+use spf_model::{Counts, Ending, Limits};
 use std::alloc::{AllocError, Global};
 use zone_answers::{Questions, Zones};
 
@@ -22,9 +22,9 @@ use zone_answers::{Questions, Zones};
 #[derive(Drop)]
 pub struct Both {
     /// The outcome at each IPv4 address.
-    pub v4: TrieMap<u32, Outcome>,
+    pub v4: TrieMap<u32, Ending>,
     /// The outcome at each IPv6 address.
-    pub v6: TrieMap<u128, Outcome>,
+    pub v6: TrieMap<u128, Ending>,
     /// Each question that the evaluation of some address asks, once, by the bytes of the printed name and then by A, AAAA, MX,
     /// TXT.
     pub asked: Questions,
@@ -35,7 +35,7 @@ impl Scene<'_> {
     fn outcomes<W: NetworkFamily>(
         &self,
         asked: &mut Questions,
-    ) -> Result<TrieMap<W, Outcome>, AllocError>
+    ) -> Result<TrieMap<W, Ending>, AllocError>
         requires { AreModest self.now.limits }
         ensures { IfOk result (λ ends. AreEndsOf W.BITS (says self.now.zones.now) (run_at (address_of W.family) self.now) ends asked.old asked.new) }
     {

@@ -3,7 +3,6 @@
 
 mod asked;
 mod both;
-mod failure;
 mod gathered;
 mod hosts;
 mod laws;

@@ -3,9 +3,8 @@ ghost use Rattle.std.specs.Prelude.{◌≡◌, IfOk};
 ghost use Rattle.symbolic_check.specs.declared.state.State.TheVariants.{Failed};
 ghost use Rattle.symbolic_check.specs.Steps as step;
 
-use crate::failure::Failure;
 use spf_grammar::Verdict;
-use spf_model::{Cause, Counts, Limits, Outcome, Place};
+use spf_model::{Cause, Counts, Ending, Failure, Limits, Outcome, Place};
 use std::alloc::{AllocError, Global};
 
 /// What stands at an address in the midst of a record.
@@ -160,13 +159,13 @@ impl State {
     }
 
     /// The outcome, where the record is evaluated whole (RFC 7208, section 2.6).
-    pub(crate) fn outcome(&self) -> Result<Outcome, AllocError>
-        ensures { IfOk result (λ outcome. outcome ≡ step.outcome_of self.now) }
+    pub(crate) fn ending(&self) -> Result<Ending, AllocError>
+        ensures { IfOk result (λ ending. ending ≡ step.outcome_of self.now) }
     {
         match self {
-            State::Live(_) => Ok(Outcome::Is(Verdict::Neutral)),
-            State::Decided(verdict, _) => Ok(Outcome::Is(*verdict)),
-            State::Failed(failure) => failure.outcome().clone(),
+            State::Live(_) => Ok(Ending::of_verdict(Verdict::Neutral)),
+            State::Decided(verdict, _) => Ok(Ending::of_verdict(*verdict)),
+            State::Failed(failure) => Ok(Ending::of_failure(failure.clone()?)),
         }
     }
 }

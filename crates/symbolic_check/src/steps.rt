@@ -8,7 +8,7 @@ use crate::state::{Purpose, State};
 use addr_bits::Width;
 use prefix_trie::TrieMap;
 use spf_grammar::Verdict;
-use spf_model::{Limits, Outcome, Place};
+use spf_model::{Ending, Limits, Outcome, Place};
 use std::alloc::{AllocError, Global};
 
 /// What stands at each address of a family in the midst of a record.
@@ -134,8 +134,8 @@ pub(crate) fn use_target<W: Width>(
 }
 
 /// The outcome of each address, where the record is evaluated whole.
-pub(crate) fn outcomes<W: Width>(states: &States<W>) -> Result<TrieMap<W, Outcome>, AllocError>
+pub(crate) fn outcomes<W: Width>(states: &States<W>) -> Result<TrieMap<W, Ending>, AllocError>
     ensures { IfOk result (λ ends. (a : ℕ) → a < 2 ^ W.BITS → value_at W.BITS ends a ≡ option_map step.outcome_of (value_at W.BITS states.now a)) }
 {
-    states.map(|state| state.outcome())
+    states.map(|state| state.ending())
 }

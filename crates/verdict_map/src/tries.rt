@@ -7,7 +7,7 @@ use crate::VerdictFault;
 use addr_bits::{AddressFamily, Width};
 use prefix_trie::TrieMap;
 use spf_grammar::Verdict;
-use spf_model::Outcome;
+use spf_model::{Ending, Outcome};
 use std::alloc::AllocError;
 
 /// The verdict of every address, as a trie for each family.
@@ -18,32 +18,29 @@ pub struct VerdictTries {
 }
 
 /// Whether the outcome is a verdict.
-fn is_verdict(outcome: &Outcome) -> bool
-    ensures { result ≡ has_verdict outcome.now }
+fn is_verdict(ending: &Ending) -> bool
+    ensures { result ≡ has_verdict ending.now }
 {
-    matches!(outcome, Outcome::Is(_))
+    ending.verdict().is_some()
 }
 
 /// The verdict that the outcome is, and neutral where it is none.
-fn verdict_of(outcome: &Outcome) -> Verdict
-    ensures { result ≡ verdict_or_neutral outcome.now }
+fn verdict_of(ending: &Ending) -> Verdict
+    ensures { result ≡ verdict_or_neutral ending.now }
 {
-    match outcome {
-        Outcome::Is(verdict) => *verdict,
-        _ => Verdict::Neutral,
-    }
+    ending.verdict().unwrap_or(Verdict::Neutral)
 }
 
 /// The least address whose outcome is no verdict, and this outcome.
 fn least_without<W: Width>(
-    outcomes: &TrieMap<W, Outcome>,
+    outcomes: &TrieMap<W, Ending>,
 ) -> Result<Option<(W, Outcome)>, AllocError>
     ensures found { IfOk result (λ least. IfSome least (λ pair. IsLeastWithout W.BITS outcomes.now (W.number pair.0) pair.1)) }
     ensures none { IfOk result (λ least. IfNone least (HaveVerdicts W.BITS outcomes.now)) }
 {
     match outcomes.least_where(|outcome| !is_verdict(outcome)) {
         Some(address) => {
-            let outcome = outcomes.at(address).clone()?;
+            let outcome = outcomes.at(address).outcome()?;
             Ok(Some((address, outcome)))
         }
         None => Ok(None),
@@ -51,7 +48,7 @@ fn least_without<W: Width>(
 }
 
 /// The verdict at each address, and neutral where the outcome is none.
-fn verdicts_of<W: Width>(outcomes: &TrieMap<W, Outcome>) -> Result<TrieMap<W, Verdict>, AllocError>
+fn verdicts_of<W: Width>(outcomes: &TrieMap<W, Ending>) -> Result<TrieMap<W, Verdict>, AllocError>
     ensures { IfOk result (λ verdicts. (a : ℕ) → a < 2 ^ W.BITS → value_at W.BITS verdicts a ≡ option_map verdict_or_neutral (value_at W.BITS outcomes.now a)) }
 {
     outcomes.map(|outcome| Ok(verdict_of(outcome)))
@@ -61,7 +58,7 @@ fn verdicts_of<W: Width>(outcomes: &TrieMap<W, Outcome>) -> Result<TrieMap<W, Ve
 /// with the least such address and its outcome; `Memory` where there is no memory.
 #[tactic(auto, using(crate::proofs::Outcomes::verdict_of_outcome))]
 fn family_verdicts<W: AddressFamily>(
-    outcomes: &TrieMap<W, Outcome>,
+    outcomes: &TrieMap<W, Ending>,
 ) -> Result<TrieMap<W, Verdict>, VerdictFault>
     ensures found { IfOk result (λ tries. (a : ℕ) → a < 2 ^ W.BITS → IsVerdictOf (value_at W.BITS outcomes.now a) (value_at W.BITS tries a)) }
     ensures fault { IfErr result (IsFamilyFault W.family W.BITS outcomes.now) }
@@ -79,8 +76,8 @@ fn family_verdicts<W: AddressFamily>(
 /// least IPv4 address of that kind, or where there is none the least IPv6 address, and its outcome; `Memory` where there is
 /// no memory.
 pub fn verdicts(
-    v4: &TrieMap<u32, Outcome>,
-    v6: &TrieMap<u128, Outcome>,
+    v4: &TrieMap<u32, Ending>,
+    v6: &TrieMap<u128, Ending>,
 ) -> Result<VerdictTries, VerdictFault>
     ensures four { IfOk result (λ tries. (a : ℕ) → a < 2 ^ 32 → IsVerdictOf (value_at 32 v4.now a) (value_at 32 tries.v4 a)) }
     ensures six { IfOk result (λ tries. (a : ℕ) → a < 2 ^ 128 → IsVerdictOf (value_at 128 v6.now a) (value_at 128 tries.v6 a)) }

@@ -4,6 +4,5 @@ use Rattle.verdict_map.proofs.tries.verdicts.Goals as goal
 
 pub returns-in_err-v6-clause-fault : goal.returns-in_err-v6-clause-fault
 returns-in_err-v6-clause-fault c =
-    let refused = refused_six c.args.v4.now c.args.v6.now c.in_err-v6.field-0.0
-    (λ a within. has_outcome _ _ (c.in_ok-v4.ensures.found a within)) c.in_err-v6.ensures.fault in
-    search (rules, refused)
+    let fault = refused_six c.args.v4.now c.args.v6.now c.in_err-v6.field-0.0 (λ a below. has_outcome _ _ (c.in_ok-v4.ensures.found a below)) c.in_err-v6.ensures.fault in
+    search (rules, fault)

@@ -1,13 +1,13 @@
-//! The outcome of a failed evaluation, which stands apart, so that what stands at an address is small.
+//! Outcomes that stand apart, so that what holds many of them is small.
 ghost use Rattle.std.specs.Prelude.{◌≡◌, IfOk};
 
-use spf_model::Outcome;
+use crate::Outcome;
 use std::alloc::{AllocError, Global};
 use std::marker::Model;
 
-/// An outcome that is no verdict, in memory of its own, since its name may have 255 octets.
+/// An outcome in memory of its own, since its name may have 255 octets.
 #[derive(Drop)]
-pub(crate) struct Failure {
+pub struct Failure {
     outcome: Box<Outcome>,
 }
 
@@ -50,8 +50,8 @@ impl Eq for Failure {
 }
 
 impl Failure {
-    /// The end with this outcome.
-    pub(crate) fn new(alloc: Global, outcome: Outcome) -> Result<Failure, AllocError>
+    /// The outcome, in memory of its own.
+    pub fn new(alloc: Global, outcome: Outcome) -> Result<Failure, AllocError>
         ensures { IfOk result (λ failure. failure ≡ outcome) }
     {
         let outcome = Box::new(alloc, outcome)?;
@@ -59,7 +59,7 @@ impl Failure {
     }
 
     /// The outcome.
-    pub(crate) fn outcome(&self) -> &Outcome
+    pub fn outcome(&self) -> &Outcome
         ensures { result.now ≡ self.now }
     {
         &self.outcome
