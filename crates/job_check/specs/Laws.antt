@@ -33,14 +33,17 @@ one_check (domain ∷ address ∷ words) a b x y =
     let named : a.domain ≡ b.domain = one_domain domain a.domain b.domain x.named y.named in
     let spelled : a.address ≡ b.address = one_text address a.address b.address x.spelled y.spelled in
     let reading : a.limits ≡ b.limits = one_limits reading_options words a.limits b.limits x.reading y.reading in
-    let zones : a.inputs ≡ b.inputs = one_inputs Zones (behind_options reading_options words) a.inputs b.inputs x.zones y.zones in
+    let zones : a.inputs ≡ b.inputs =
+    one_inputs Zones (behind_options reading_options words) a.inputs b.inputs x.zones y.zones in
     λ i. record { domain = named i; address = spelled i; limits = reading i; inputs = zones i }
 
 one_output : (job : Check) (loaded : Loaded) (a b : Output) → IsOutcome job loaded a → IsOutcome job loaded b → a ≡ b
 one_output job loaded a b x y =
     let outcome : x.line.outcome ≡ y.line.outcome =
-    one_outcome (says loaded.zones) job.limits job.domain.text job.address x.line.outcome y.line.outcome x.line.gives y.line.gives in
-    let bytes : a.bytes ≡ b.bytes = x.line.is ∙ (ap (λ (o : Outcome). line_of [] (outcome_words o)) outcome ∙ sym y.line.is) in
+    one_outcome (says loaded.zones) job.limits job.domain.text job.address x.line.outcome y.line.outcome
+    x.line.gives y.line.gives in
+    let bytes : a.bytes ≡ b.bytes =
+    x.line.is ∙ (ap (λ (o : Outcome). line_of [] (outcome_words o)) outcome ∙ sym y.line.is) in
     let asked : a.asked ≡ b.asked = x.untold ∙ sym y.untold in
     λ i. record { bytes = bytes i; asked = asked i }
 
@@ -48,9 +51,11 @@ gives_once : (a b : Output) → Gives a ≡ Gives b → a ≡ b
 gives_once a b e = cc
 
 one_due : (job : Check) (loaded : Loaded) (x y : Due) → OutcomeDue job loaded x → OutcomeDue job loaded y → x ≡ y
-one_due job loaded x y (a, is, due) (b, is', due') = due ∙ (ap (λ (o : Output). Gives o) (one_output job loaded a b is is') ∙ sym due')
+one_due job loaded x y (a, is, due) (b, is', due') =
+    due ∙ (ap (λ (o : Output). Gives o) (one_output job loaded a b is is') ∙ sym due')
 
-best_due : (job : Check) (loaded : Loaded) (output : Output) → OutcomeDue job loaded (Gives output) → IsOutcome job loaded output
+best_due : (job : Check) (loaded : Loaded) (output : Output) → OutcomeDue job loaded (Gives output)
+    → IsOutcome job loaded output
 best_due job loaded output (other, is, due) = subst (λ o. IsOutcome job loaded o) (gives_once other output (sym due)) is
 
 pub check_lawful : (job : Check) → IsLawful (meaning_of_check job)

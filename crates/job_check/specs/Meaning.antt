@@ -16,7 +16,8 @@ use Rattle.jobs.specs.declared.output.Output.{Output}
 use Rattle.job_check.specs.declared.check.Check.{Check}
 
 -- RFC 7208, section 4: the bytes are the line of the outcome that check_host gives the address over these zones
-pub record IsOutcomeLine (zones : List Zone) (domain : List ℕ) (address : Address) (limits : Limits) (bytes : List ℕ) : Type 0 where
+pub record IsOutcomeLine (zones : List Zone) (domain : List ℕ) (address : Address) (limits : Limits)
+    (bytes : List ℕ) : Type 0 where
   pub outcome : Outcome
   pub gives : model.Gives (says zones) limits domain address outcome
   pub is : bytes ≡ line_of [] (outcome_words outcome)
@@ -37,4 +38,5 @@ pub record IsReady (job : Check) : Type 0 where
 
 -- what the job means
 abbrev pub meaning_of_check : Check → Meaning
-meaning_of_check job = record { inputs = job.inputs; IsReady = IsReady job; IsDue = OutcomeDue job; IsBest = IsOutcome job }
+meaning_of_check job =
+    record { inputs = job.inputs; IsReady = IsReady job; IsDue = OutcomeDue job; IsBest = IsOutcome job }

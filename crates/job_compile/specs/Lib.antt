@@ -1,12 +1,3 @@
-pub mod BestPublication
 pub mod Laws
-pub mod LegalSettings
 pub mod Meaning
-pub mod OnePolicy
-pub mod OnePublication
-pub mod Policy
-pub mod Published
-pub mod SameVerdicts
-pub mod Settings
-pub mod ShortestPolicy
 pub mod Words

@@ -5,7 +5,7 @@ use Rattle.spfc_words.specs.Limits.{AreLimits, lookups_option, voids_option, exc
 use Rattle.spfc_words.specs.Options.{behind_options}
 use Rattle.spfc_words.specs.Rows.{OptionRow}
 use Rattle.spfc_words.specs.declared.input.Group.TheVariants.{Zones}
-use Rattle.job_compile.specs.Settings.{AreSettings, size_option, ttl_option, label_option}
+use Rattle.publishing.specs.Settings.{AreSettings, size_option, ttl_option, label_option}
 use Rattle.job_compile.specs.declared.compile.Compile.{Compile}
 
 -- the options of the job: those of the reading limits, and of a chain of records

@@ -1,26 +1,19 @@
 //! The job.
-ghost use Rattle.std.specs.Prelude.{◌∷◌, Ok, Err, IsOk, IfOk, IfErr};
-ghost use Rattle.dns_name.specs.Name.{name_of_text};
-ghost use Rattle.spf_model.specs.Result.{AreModest};
+ghost use Rattle.std.specs.Prelude.{◌∷◌};
 ghost use Rattle.spfc_words.specs.Words.{texts};
-ghost use Rattle.loading.specs.Memory.{ErrorIs};
 ghost use Rattle.jobs.specs.Meaning.{Reads};
 ghost use Rattle.job_compile.specs.Words.{SpellsCompile};
-ghost use Rattle.job_compile.specs.Policy.{PolicyDue, due_of};
 
-use crate::publish;
-use crate::settings::{ChainSettings, LABEL, SIZE, TTL, read_settings};
-use crate::verdicts::kept_verdicts;
-use addr_bits::Bytes;
 use jobs::{Job, Output};
 use loading::{Loaded, OrMemory, Refusal};
+use publishing::{ChainSettings, LABEL, SIZE, TTL, publish_policy, read_settings};
 use spf_model::Limits;
 use spfc_words::{
     EXCHANGES, Group, Input, Inputs, LOOKUPS, Row, VOIDS, behind_options, push_zone_words,
     read_limits, split_first,
 };
 use std::alloc::{AllocError, Global};
-use zone_answers::{Questions, Zones};
+use zone_answers::Questions;
 
 /// The options of the job: those of the reading limits, and of a chain of records.
 const OPTIONS: &[Row] = &[
@@ -70,7 +63,7 @@ impl Job for Compile {
     }
 
     fn perform(&self, alloc: Global, loaded: &Loaded) -> Result<Output, OrMemory<Refusal>> {
-        match write_policy(alloc, &loaded.zones, &self.settings, self.limits) {
+        match publish_policy(alloc, &loaded.zones, &self.settings, self.limits) {
             Ok(bytes) => Ok(Output {
                 bytes,
                 asked: Questions::new(alloc),
@@ -104,20 +97,4 @@ fn read_behind(alloc: Global, domain: &str, rest: &[String]) -> Result<Option<Co
         limits,
         inputs,
     }))
-}
-
-/// The fragment for the domain over these zones, which are read under these limits.
-fn write_policy(
-    alloc: Global,
-    zones: &Zones,
-    settings: &ChainSettings,
-    limits: Limits,
-) -> Result<Bytes, OrMemory<Refusal>>
-    requires named { IsOk (name_of_text settings.now.domain.text) }
-    requires modest { AreModest limits }
-    ensures written { IfOk result (λ bytes. PolicyDue settings.now limits zones.now (due_of (Ok bytes))) }
-    ensures refused { IfErr result (ErrorIs (λ why. PolicyDue settings.now limits zones.now (due_of (Err why)))) }
-{
-    let tries = kept_verdicts(alloc, zones, settings.domain.text.as_slice(), limits)?;
-    publish(alloc, zones, settings, &tries)
 }

@@ -1,6 +1,6 @@
 -- What words come to, step by step.
-use Rattle.std.proofs.Common.{◌≡◌, ◌⊎◌, ◌||◌, ℕ, List, [], ◌∷◌, length, Ok, Err, IsTrue, Bool, true, false}
-use Rattle.std.proofs.Common.{refl, sym, ap, ◌∙◌, subst, inl, inr, IfOk, Result}
+use Rattle.std.proofs.Common.{◌≡◌, ◌⊎◌, ◌||◌, ℕ, List, [], ◌∷◌, Ok, Err, IsTrue, Bool, true, false}
+use Rattle.std.proofs.Common.{refl, sym, subst, inl, inr, IfOk, Result}
 use Rattle.std.proofs.lemmas.Bool.{false≢true}
 use Rattle.std.specs.declared.alloc.AllocError.{AllocError}
 use Rattle.spfc_outer.specs.Seen.{FilesSeen}
@@ -10,7 +10,7 @@ use Rattle.loading.specs.declared.refusal.Refusal.{Refusal}
 use Rattle.loading.specs.Loading.{Loads, nothing}
 use Rattle.jobs.specs.declared.output.Output.{Output}
 use Rattle.jobs.specs.Meaning.{Due, Refuses, Gives, Meaning, Program, AreLawful}
-use Rattle.jobs.specs.Given.{Given, JobDue, tells, reads_none, IsGiven, IsBestOutput, LineDue}
+use Rattle.jobs.specs.Given.{Given, tells, reads_none, IsGiven, IsBestOutput, LineDue}
 use Rattle.jobs.specs.Answer.{IsAnswer}
 use Rattle.jobs.specs.declared.answering.Answer.{Answer}
 use Rattle.jobs.specs.declared.answering.Answer.TheVariants.{Says}

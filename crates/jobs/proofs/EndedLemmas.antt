@@ -1,23 +1,20 @@
 -- What follows from how a run ended.
-use Rattle.std.proofs.Common.{◌≡◌, ◌<◌, ◌≤◌, ◌⊎◌, ◌||◌, ℕ, List, Bool, true, false, IsTrue, length, Ok, Err, Result}
+use Rattle.std.proofs.Common.{◌≡◌, ◌<◌, ◌≤◌, ◌⊎◌, ℕ, List, true, false, IsTrue, length, Ok, Err, Result}
 use Rattle.std.proofs.Common.{refl, sym, ◌∙◌, arith, ap, subst, inl, inr}
 use Rattle.std.proofs.lemmas.Bool.{false≢true}
-use Rattle.spfc_outer.specs.Seen.{FilesSeen, SinkSeen}
+use Rattle.spfc_outer.specs.Seen.{FilesSeen}
 use Rattle.loading.specs.declared.loaded.Loaded.{Loaded}
 use Rattle.loading.specs.declared.refusal.Refusal.{Refusal}
 use Rattle.loading.specs.declared.refusal.Refusal.TheVariants.{NoFile, LongFile, BadZone, TooManyRecords, AliasAndOther}
 use Rattle.loading.specs.declared.refusal.Refusal.TheVariants.{NoVerdict, Alias, Taken, TooBig}
-use Rattle.loading.specs.Refusals.{refusal_status, refusal_line}
-use Rattle.loading.specs.Lines.{usage_line}
-use Rattle.loading.specs.Loading.{Loads}
+use Rattle.loading.specs.Refusals.{refusal_status}
 use Rattle.loading.proofs.OneLoading.{one_loading}
-use Rattle.jobs.specs.declared.output.Output.{Output}
 use Rattle.jobs.specs.Meaning.{Due, Refuses, Gives, Meaning, Program, AreLawful, IsLawful}
-use Rattle.jobs.specs.Given.{Given, IsGiven, IsUsage, JobDue, Behind, IsReadFault, tells, LineDue, finding, usage, fault}
-use Rattle.jobs.specs.Given.{Spoken, Writes, Says, spoken, WordsDue, no_job, job, HasRoom, EndsDue, OneIsDue}
-use Rattle.jobs.specs.Turn.{Step, Turn, given_of, Gains, Breaks, Ended, done, told, unwritten, untold, no_memory}
+use Rattle.jobs.specs.Given.{Given, IsGiven, JobDue, Behind, IsReadFault, tells, LineDue, finding, usage, fault}
+use Rattle.jobs.specs.Given.{Writes, Says, spoken, WordsDue, no_job, job, OneIsDue}
+use Rattle.jobs.specs.Turn.{Turn, given_of, Gains, Ended, done, told, unwritten, untold, no_memory}
 use Rattle.jobs.specs.Turn.{HasDone, HasBest, HasFound, HasUsage, HasReadFault, HasWriteFault, HasNone, IsFindingStatus}
-use Rattle.jobs.specs.Turn.{IsCalm, IsSure, IsComplete, IsAssured}
+use Rattle.jobs.specs.Turn.{IsComplete, IsAssured}
 
 -- ---- statuses
 pub finding_status : (why : Refusal) → IsFindingStatus (refusal_status why)

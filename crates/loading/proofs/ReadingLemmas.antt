@@ -11,7 +11,6 @@ use Rattle.loading.specs.Memory.{ErrorIs}
 use Rattle.loading.specs.Reading.{ComesTo, HasTaken, EndsTaken, HasRead}
 use Rattle.loading.specs.declared.memory.OrMemory.{OrMemory}
 use Rattle.loading.specs.declared.reading.Taken.{Taken}
-use Rattle.loading.specs.declared.refusal.Refusal.{Refusal}
 use Rattle.loading.specs.declared.refusal.Refusal.TheVariants.{NoFile, LongFile, BadZone}
 use Rattle.loading.specs.declared.stop.Stop.{Stop}
 use Rattle.loading.proofs.StopLemmas.{result_also, refusal_stops}

@@ -1,5 +1,5 @@
 -- Why a step stops, and calls of the files in a row.
-use Rattle.std.proofs.Common.{◌≡◌, ◌≤◌, ℕ, List, Err, Ok, Result, IfErr, OnOk, IsTrue, sym, ◌∙◌, arith, subst}
+use Rattle.std.proofs.Common.{◌≤◌, ℕ, List, Err, Ok, Result, IfErr, OnOk, IsTrue, sym, ◌∙◌, arith, subst}
 use Rattle.spfc_outer.specs.Causes.{Rose}
 use Rattle.spfc_outer.specs.Seen.{FilesSeen, Keeps, FailsAt}
 use Rattle.loading.specs.Loading.{IsRefusal, StopsAt}

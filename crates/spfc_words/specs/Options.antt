@@ -1,5 +1,6 @@
 -- Options, which stand in front of the other words, in any order, each at most once: the project's own form.
-use Rattle.std.specs.Prelude.{◌≡◌, ℕ, ◌<◌, ◌≤◌, Bool, true, false, List, [], ◌∷◌, length, decimal, bytes_eq, String, if◌then◌else◌}
+use Rattle.std.specs.Prelude.{◌≡◌, ℕ, ◌<◌, ◌≤◌, Bool, true, false, List, [], ◌∷◌, length, decimal, bytes_eq, String}
+use Rattle.std.specs.Prelude.{if◌then◌else◌}
 use Rattle.std.specs.declared.alloc.Global.{Global}
 use Rattle.spfc_words.specs.Rows.{OptionRow, NumberOption, TextOption, FlagOption, is_flag, is_valued}
 use Rattle.spfc_words.specs.Words.{texts}
@@ -32,7 +33,8 @@ values_of name (setting ∷ settings) =
     if bytes_eq setting.name name then setting.value ∷ values_of name settings else values_of name settings
 
 -- an option is written at most once; where it is not, it is what it is by default
-abbrev pub IsOption : {A : Type 0} → (Spells : List ℕ → A → Type 0) → (by_default : A) → (values : List (List ℕ)) → A → Type 0
+abbrev pub IsOption : {A : Type 0} → (Spells : List ℕ → A → Type 0) → (by_default : A) → (values : List (List ℕ))
+    → A → Type 0
 IsOption Spells by_default [] a = a ≡ by_default
 IsOption Spells by_default (value ∷ []) a = Spells value a
 IsOption Spells by_default (value ∷ again ∷ values) a = ⊥
@@ -60,7 +62,8 @@ NumberIs rows words (FlagOption name) n = ⊥
 
 -- what the words in front say of a text
 abbrev pub TextIs : List OptionRow → List (List ℕ) → OptionRow → List ℕ → Type 0
-TextIs rows words (TextOption name by_default) text = IsOption IsText by_default (values_of name (settings_in rows words)) text
+TextIs rows words (TextOption name by_default) text =
+    IsOption IsText by_default (values_of name (settings_in rows words)) text
 TextIs rows words (NumberOption name low high by_default) text = ⊥
 TextIs rows words (FlagOption name) text = ⊥
 
@@ -71,7 +74,8 @@ FlagIs rows words (NumberOption name low high by_default) b = ⊥
 FlagIs rows words (TextOption name by_default) b = ⊥
 
 -- the words begin with this option, and these are behind it
-pub record Splits (rows : List OptionRow) (words : List (String Global)) (name value : List ℕ) (behind : List (String Global)) : Type 0 where
+pub record Splits (rows : List OptionRow) (words : List (String Global)) (name value : List ℕ)
+    (behind : List (String Global)) : Type 0 where
   pub first : settings_in rows (texts words) ≡ record { name = name; value = value } ∷ settings_in rows (texts behind)
   pub rest : behind_options rows (texts words) ≡ behind_options rows (texts behind)
   pub fewer : length behind < length words

@@ -1,5 +1,6 @@
 -- Zone words: the project's own form.
-use Rattle.std.specs.Prelude.{◌≡◌, ◌≢◌, ℕ, ◌<◌, ◌≤◌, ◌==◌, Bool, IsTrue, ◌||◌, List, length, Ok, codes, bytes_eq, AllPairs}
+use Rattle.std.specs.Prelude.{◌≡◌, ◌≢◌, ℕ, ◌<◌, ◌≤◌, ◌==◌, Bool, IsTrue, ◌||◌, List, length, Ok, codes, bytes_eq}
+use Rattle.std.specs.Prelude.{AllPairs}
 use Rattle.std.specs.List.{AllZip, list_all, slice_split, before_first, after_first}
 use Rattle.dns_name.specs.Name.{name_of_text, is_dot}
 use Rattle.dns_name.specs.Parts.{without_final}

@@ -42,8 +42,8 @@ pub struct Input {
 /// The files that a job reads, in the order in which it reads them.
 pub type Inputs = Items<Input>;
 
-/// Appends the zones that the words name: 1 to 64 words ORIGIN=FILE of different origins. `false` where these are no such
-/// words, and then the list stays as it was. Where there is no memory, some of the zones may stand in it.
+/// Appends the zones that the words name: 1 to 64 words ORIGIN=FILE of different origins. `false` where these are no
+/// such words, and then the list stays as it was. Where there is no memory, some of the zones may stand in it.
 pub fn push_zone_words(
     alloc: Global,
     inputs: &mut Inputs,

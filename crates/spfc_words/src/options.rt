@@ -2,7 +2,8 @@
 ghost use Rattle.std.specs.Prelude.{◌≡◌, ℕ, ◌<◌, ◌≤◌, List, [], ◌∷◌, Bool, map, length, MatchOption};
 ghost use Rattle.spfc_words.specs.Rows.{plain};
 ghost use Rattle.spfc_words.specs.Options as options;
-ghost use Rattle.spfc_words.specs.Options.{IsNumber, NumberIs, TextIs, FlagIs, HasNone, Splits, settings_in, values_of};
+ghost use Rattle.spfc_words.specs.Options.{IsNumber, NumberIs, TextIs, FlagIs, HasNone, Splits};
+ghost use Rattle.spfc_words.specs.Options.{settings_in, values_of};
 ghost use Rattle.spfc_words.specs.Words.{texts};
 
 use crate::row::{FlagRow, NumberRow, Row, TextRow, is_flag, is_valued};

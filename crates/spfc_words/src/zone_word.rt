@@ -59,7 +59,8 @@ fn has_origin(zones: &[ZoneWord], origin: &Name) -> bool
 
 /// The zone that one word names.
 fn read_zone_word(alloc: Global, word: &str) -> Result<Option<ZoneWord>, AllocError>
-    ensures { IfOk result (λ zone. MatchOption zone ((any : ZoneWord) → ¬ IsZoneWord word.now any) (IsZoneWord word.now)) }
+    ensures { IfOk result (λ zone. MatchOption zone
+        ((any : ZoneWord) → ¬ IsZoneWord word.now any) (IsZoneWord word.now)) }
 {
     let Some((origin, text)) = split_word(word) else {
         return Ok(None);
@@ -75,7 +76,8 @@ fn read_zone_word(alloc: Global, word: &str) -> Result<Option<ZoneWord>, AllocEr
 /// What stands before and behind the first `=`, where something stands behind it.
 fn split_word(word: &str) -> Option<(&[u8], &[u8])>
     ensures { MatchOption result (length (file_in word.now) ≡ 0)
-        (λ parts. (parts.0.now ≡ origin_in word.now) × (parts.1.now ≡ file_in word.now) × (0 < length parts.1.now)) }
+        (λ parts. (parts.0.now ≡ origin_in word.now)
+        × (parts.1.now ≡ file_in word.now) × (0 < length parts.1.now)) }
 {
     let (origin, file) = word.split_once('=')?;
     if file.is_empty() {

@@ -1,4 +1,4 @@
-use Rattle.std.proofs.Common.{refl, ap, sym, ◌∙◌, List, ℕ, [], ◌≡◌}
+use Rattle.std.proofs.Common.{refl, ap, ◌∙◌}
 use Rattle.spfc_words.specs.Words.{texts}
 use Rattle.loading.specs.Lines.{read_fault_line}
 use Rattle.jobs.specs.Meaning.{Program, program, Refuses}

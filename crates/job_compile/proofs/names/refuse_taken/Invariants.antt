@@ -1,7 +1,0 @@
-use Rattle.std.proofs.Common.{ℕ, ◌≤◌, ◌<◌, IsFalse}
-use Rattle.job_compile.specs.Published.{is_record_taken}
-use Rattle.job_compile.proofs.names.refuse_taken.Given as goal
-
--- the names so far are free
-abbrev pub invariant-loop-number : goal.invariant-loop-number
-invariant-loop-number l = (j : ℕ) → 1 ≤ j → j < l.number → IsFalse (is_record_taken l.settings l.zones j)

@@ -1,0 +1,8 @@
+pub mod BestPublication
+pub mod Evaluations
+pub mod LegalSettings
+pub mod OnePolicy
+pub mod OnePublication
+pub mod PublicationLemmas
+pub mod SameVerdicts
+pub mod ShortestPolicy

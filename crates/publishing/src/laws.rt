@@ -1,0 +1,13 @@
+//! Laws of what is published. The functions do nothing: what they promise is the law.
+ghost use Rattle.publishing.specs.Published.{DueIsBest, OnePublication};
+
+/// For the same settings, zones and verdicts one thing is due at most: one refusal, or one fragment.
+pub fn one_publication()
+    ensures { OnePublication }
+{}
+
+/// A fragment that is due is best: of a shortest list with the verdicts, in records that fit, of which no cut that fits
+/// has fewer, whose names are free, and which stand where they are published.
+pub fn due_is_best()
+    ensures { DueIsBest }
+{}

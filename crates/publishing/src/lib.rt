@@ -1,0 +1,14 @@
+//! Publishing the policy of a domain: a shortest list of its verdicts as the fewest records that fit.
+#![tactic(auto)]
+
+mod laws;
+mod names;
+mod policy;
+mod publication;
+mod settings;
+mod verdicts;
+
+pub use laws::{due_is_best, one_publication};
+pub use policy::publish_policy;
+pub use publication::publish;
+pub use settings::{ChainSettings, LABEL, SIZE, TTL, read_settings};

@@ -1,0 +1,31 @@
+//! Publishing the policy of a domain.
+ghost use Rattle.std.specs.Prelude.{Ok, Err, IsOk, IfOk, IfErr};
+ghost use Rattle.dns_name.specs.Name.{name_of_text};
+ghost use Rattle.spf_model.specs.Result.{AreModest};
+ghost use Rattle.loading.specs.Memory.{ErrorIs};
+ghost use Rattle.publishing.specs.Policy.{PolicyDue};
+
+use crate::verdicts::kept_verdicts;
+use crate::{ChainSettings, publish};
+use addr_bits::Bytes;
+use loading::{OrMemory, Refusal};
+use spf_model::Limits;
+use std::alloc::Global;
+use zone_answers::Zones;
+
+/// The fragment for the domain over these zones, which are read under these limits. Refused is first the least address
+/// to which check_host gives no verdict (RFC 7208, section 4), and then what `publish` refuses.
+pub fn publish_policy(
+    alloc: Global,
+    zones: &Zones,
+    settings: &ChainSettings,
+    limits: Limits,
+) -> Result<Bytes, OrMemory<Refusal>>
+    requires named { IsOk (name_of_text settings.now.domain.text) }
+    requires modest { AreModest limits }
+    ensures written { IfOk result (λ bytes. PolicyDue settings.now limits zones.now (Ok bytes)) }
+    ensures refused { IfErr result (ErrorIs (λ why. PolicyDue settings.now limits zones.now (Err why))) }
+{
+    let tries = kept_verdicts(alloc, zones, settings.domain.text.as_slice(), limits)?;
+    publish(alloc, zones, settings, &tries)
+}
