@@ -26,7 +26,8 @@ pub trait AddressFamily: Width {
 
     /// The number of the address that the text spells; `NotAddress` exactly where it spells none of the family.
     fn read(text: &[u8]) -> Result<Self, NotAddress>
-        ensures { MatchResult result (λ a. SpellsIn family text.now (Self.number a)) (λ _. (n : ℕ) → ¬ SpellsIn family text.now n) };
+        ensures { MatchResult result (λ a. SpellsIn family text.now (Self.number a))
+            (λ _. (n : ℕ) → ¬ SpellsIn family text.now n) };
 
     /// The written form.
     fn write(self) -> ArrayString<39>

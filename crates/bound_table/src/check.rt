@@ -27,7 +27,8 @@ fn is_at_most(row: &Needs, most: &Needs) -> bool
 pub fn check_row(row: &Needs, low: &Needs, high: &Needs) -> bool
     requires low { (c : Verdict) → number low.now c < 2 ^ 32 }
     requires high { (c : Verdict) → number high.now c < 2 ^ 32 }
-    ensures { IsTrue result ↔ ((c : Verdict) → number row.now c ≤ at_mixed (λ x. number low.now x + number high.now x) c) }
+    ensures { IsTrue result ↔ ((c : Verdict) → number row.now c ≤ at_mixed
+        (λ x. number low.now x + number high.now x) c) }
 {
     is_at_most(row, &low.plus(*high).under_rule())
 }

@@ -7,27 +7,28 @@ use Rattle.dns_name.specs.declared.fault.NameFault.TheVariants.{EmptyLabel, Labe
 use Rattle.dns_name.specs.Parts.{without_final}
 use Rattle.dns_name.specs.Wire.{wire_form, labels_in}
 
--- RFC 1035, 2.3.4: a label has 1 to 63 octets
+-- RFC 1035, section 2.3.4: a label has 1 to 63 octets
 abbrev pub IsLabel : List ℕ → Type 0
 IsLabel label = (0 < length label) × (length label ≤ 63)
 
--- RFC 1035, 2.3.3, and RFC 4343: ASCII letters count without regard to case; that names are held in lower case is the project's own choice
+-- RFC 1035, section 2.3.3, and RFC 4343: ASCII letters count without regard to case; that names are held in lower case
+-- is the project's own choice
 abbrev pub lowercase_label : List ℕ → List ℕ
 lowercase_label label = map to_ascii_lowercase label
 
--- RFC 1035, 2.3.4 and 3.1: legal labels, of octets in lower case, with at most 255 octets on the wire
+-- RFC 1035, sections 2.3.4 and 3.1: legal labels, of octets in lower case, with at most 255 octets on the wire
 pub record IsName (name : List (List ℕ)) : Type 0 where
   pub labels : AllByRecursion IsLabel name
   pub octets : AllByRecursion (AllByRecursion (λ b. b < 256)) name
   pub lower : map lowercase_label name ≡ name
   pub short : length (wire_form name) ≤ 255
 
--- RFC 1035, 3.1: the octets are the wire form of labels, whatever their number
+-- RFC 1035, section 3.1: the octets are the wire form of labels, whatever their number
 pub record IsWire (octets : List ℕ) : Type 0 where
   pub labels : AllByRecursion IsLabel (labels_in octets)
   pub form : octets ≡ wire_form (labels_in octets)
 
--- RFC 1034, 3.1: the name stands at or below the other
+-- RFC 1034, section 3.1: the name stands at or below the other
 abbrev pub IsUnder : List (List ℕ) → List (List ℕ) → Type 0
 IsUnder name top = (front : List (List ℕ)) × (name ≡ front ++ top)
 
@@ -35,7 +36,7 @@ IsUnder name top = (front : List (List ℕ)) × (name ≡ front ++ top)
 abbrev pub is_under : List (List ℕ) → List (List ℕ) → Bool
 is_under name top = ends_with bytes_eq name top
 
--- RFC 1035, 2.3.4: why octets are no label
+-- RFC 1035, section 2.3.4: why octets are no label
 abbrev pub label_fault : List ℕ → Option NameFault
 label_fault label =
     if length label == 0 then Some EmptyLabel else (if nat_lt 63 (length label) then Some LabelLong else None)
@@ -60,17 +61,17 @@ abbrev pub name_of_labels : List (List ℕ) → Result (List (List ℕ)) NameFau
 name_of_labels labels =
     fault_or (first_fault labels) (if nat_lt 255 (length (wire_form labels)) then Err NameLong else Ok (map lowercase_label labels))
 
--- RFC 1034, 3.1: the label in front of the name
+-- RFC 1034, section 3.1: the label in front of the name
 abbrev pub child_of : List ℕ → List (List ℕ) → Result (List (List ℕ)) NameFault
 child_of label name =
     fault_or (label_fault label) (if nat_lt 255 (length (wire_form (label ∷ name))) then Err NameLong else Ok (lowercase_label label ∷ name))
 
--- RFC 1034, 3.1: the first label; the root has none
+-- RFC 1034, section 3.1: the first label; the root has none
 abbrev pub first_label_of : List (List ℕ) → Option (List ℕ)
 first_label_of [] = None
 first_label_of (label ∷ name) = Some label
 
--- RFC 1034, 3.1: the name without its first label; the root has none
+-- RFC 1034, section 3.1: the name without its first label; the root has none
 abbrev pub parent_of : List (List ℕ) → Option (List (List ℕ))
 parent_of [] = None
 parent_of (label ∷ name) = Some name
@@ -79,7 +80,7 @@ parent_of (label ∷ name) = Some name
 abbrev pub is_dot : ℕ → Bool
 is_dot b = b == 46
 
--- RFC 1034, 3.1: labels joined by dots, with or without a final dot; `.` alone is the root
+-- RFC 1034, section 3.1: labels joined by dots, with or without a final dot; `.` alone is the root
 abbrev pub name_of_text : List ℕ → Result (List (List ℕ)) NameFault
 name_of_text text =
     if bytes_eq text (46 ∷ []) then Ok [] else name_of_labels (slice_split is_dot (without_final is_dot text))

@@ -11,7 +11,7 @@ use Rattle.dns_name.specs.Name.{IsName}
 abbrev pub is_special : ℕ → Bool
 is_special b = list_any (λ c. c == b) (codes ".\\\";()@$")
 
--- RFC 1035, 5.1: `\` and three decimal digits
+-- RFC 1035, section 5.1: `\` and three decimal digits
 abbrev pub escaped_byte : ℕ → List ℕ
 escaped_byte b = 92 ∷ (48 + b / 100) ∷ (48 + b / 10 % 10) ∷ (48 + b % 10) ∷ []
 

@@ -31,7 +31,8 @@ pub(crate) fn check_label(label: &[u8]) -> Result<(), NameFault>
 
 /// Refuses a text whose parts between dots are not all labels, for the first that is none.
 pub(crate) fn check_labels(text: &[u8]) -> Result<(), NameFault>
-    ensures { MatchResult result (λ _. first_fault (slice_split is_dot text.now) ≡ None) (λ fault. first_fault (slice_split is_dot text.now) ≡ Some fault) }
+    ensures { MatchResult result (λ _. first_fault (slice_split is_dot text.now) ≡ None)
+        (λ fault. first_fault (slice_split is_dot text.now) ≡ Some fault) }
 {
     for label in text.split(|byte| *byte == b'.') {
         check_label(label)?;
@@ -60,7 +61,8 @@ pub fn without_final_dot(text: &[u8]) -> &[u8]
 pub(crate) fn split_label(wire: &[u8]) -> Option<(&[u8], &[u8])>
     requires { IsWire wire.now }
     ensures { MatchOption result (labels_in wire.now ≡ [])
-        (λ p. (labels_in wire.now ≡ p.0.now ∷ labels_in p.1.now) × IsWire p.1.now × (length p.1.now < length wire.now)) }
+        (λ p. (labels_in wire.now ≡ p.0.now ∷ labels_in p.1.now) × IsWire p.1.now
+        × (length p.1.now < length wire.now)) }
 {
     let (len, octets) = wire.split_first()?;
     if *len == 0 {

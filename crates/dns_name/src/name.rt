@@ -65,7 +65,8 @@ impl Hash for Name {
 
     ghost hash_input = { λ name. fed.slice fed.u8 (wire_form name) };
 
-    ghost respects_eq = { (same_Alike (λ name. fed.slice fed.u8 (wire_form name)) (pointwise_decides bytes_decides)).fed };
+    ghost respects_eq = { (same_Alike (λ name. fed.slice fed.u8 (wire_form name))
+        (pointwise_decides bytes_decides)).fed };
 
     fn hash<H: Hasher>(&self, state: &mut H) {
         self.wire.hash(state);
@@ -119,7 +120,8 @@ impl Name {
     }
 
     /// The name that a text writes (RFC 1034, section 3.1): the text is cut at each dot after one final dot is dropped,
-    /// and `.` alone is the root. The first label with a fault decides, then `NameLong`. The empty text is `EmptyLabel`.
+    /// and `.` alone is the root. The first label with a fault decides, then `NameLong`. The empty text is
+    /// `EmptyLabel`.
     pub fn from_text(text: &[u8]) -> Result<Name, NameFault>
         ensures { result ≡ name_of_text text.now }
     {

@@ -45,7 +45,8 @@ bits_at w leaves from len = first_start (drop from leaves) / 2 ^ (w - len)
 -- the leaves from a place on begin with those of the prefix of this length
 abbrev pub BeginAt : (w : ℕ) → List (Cidr × Verdict) → (from len : ℕ) → Type 0
 BeginAt w leaves from len =
-    (rest : List (Cidr × Verdict)) × (drop from leaves ≡ leaves_of w (verdict_at w leaves) (w - len) (bits_at w leaves from len) ++ rest)
+    (rest : List (Cidr × Verdict)) × (drop from leaves ≡ leaves_of w (verdict_at w leaves) (w - len)
+    (bits_at w leaves from len) ++ rest)
 
 -- what the halves of each mixed prefix need together, in the order of the rows
 unfoldable pub sum_rows : (w : ℕ) → (ℕ → Verdict) → (k n : ℕ) → List NeedRow

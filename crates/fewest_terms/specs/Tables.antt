@@ -36,7 +36,8 @@ mixed_prefixes w v (suc k) n =
 unfoldable pub claimed : (ℕ → Verdict) → (k n : ℕ) → List NeedRow → Verdict → ℕ
 claimed v k n rows c = if is_mixed v k n then first_number rows c else cost (v (lowest k n)) c
 
--- what the rows after that of a prefix claim that its halves need together, where the rows of the lower half stand first
+-- what the rows after that of a prefix claim that its halves need together, where the rows of the lower half stand
+-- first
 unfoldable pub claimed_of_halves : (ℕ → Verdict) → (k n : ℕ) → List NeedRow → Verdict → ℕ
 claimed_of_halves v k n rows c = claimed v k (2 * n) rows c + claimed v k (2 * n + 1) (drop (mixed_count v k (2 * n)) rows) c
 
@@ -88,4 +89,5 @@ need_rows w v (suc k) n =
 
 -- the rows of needs, with the total of the needs, are a good table
 abbrev pub NeedRowsAreGood : Type 0
-NeedRowsAreGood = (v4 v6 : ℕ → Verdict) → IsGoodTable v4 v6 (need_rows 32 v4 32 0) (need_rows 128 v6 128 0) (least_with_all (need_of_both v4 v6))
+NeedRowsAreGood = (v4 v6 : ℕ → Verdict) → IsGoodTable v4 v6 (need_rows 32 v4 32 0) (need_rows 128 v6 128 0)
+    (least_with_all (need_of_both v4 v6))

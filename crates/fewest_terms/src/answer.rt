@@ -45,7 +45,8 @@ struct Sums<W: Width> {
 fn sums_of<W: Width>(alloc: Global, leaves: &[(Prefix<W>, Verdict)]) -> Result<Sums<W>, AllocError>
     requires leaves { AreLeaves W.BITS leaves.now }
     ensures rows { IfOk result (λ sums. sums.rows.items ≡ sum_rows W.BITS (verdict_at W.BITS leaves.now) W.BITS 0) }
-    ensures needs { IfOk result (λ sums. (c : Verdict) → number sums.needs c ≡ need (verdict_at W.BITS leaves.now) W.BITS 0 c) }
+    ensures needs { IfOk result (λ sums. (c : Verdict)
+        → number sums.needs c ≡ need (verdict_at W.BITS leaves.now) W.BITS 0 c) }
     ensures fits { IfOk result (λ sums. (c : Verdict) → number sums.needs c < 2 ^ 63) }
 {
     let mut rows = Vec::new(alloc);
@@ -114,8 +115,10 @@ fn fewest_of_leaves(
     requires leaves6 { AreLeaves 128 leaves6.now }
     ensures rows4 { IfOk result (λ found. found.rows4 ≡ need_rows 32 (verdict_at 32 leaves4.now) 32 0) }
     ensures rows6 { IfOk result (λ found. found.rows6 ≡ need_rows 128 (verdict_at 128 leaves6.now) 128 0) }
-    ensures total { IfOk result (λ found. found.total ≡ total_of_both (verdict_at 32 leaves4.now) (verdict_at 128 leaves6.now)) }
-    ensures list { IfOk result (λ found. found.list ≡ chosen_list (verdict_at 32 leaves4.now) (verdict_at 128 leaves6.now)) }
+    ensures total { IfOk result (λ found. found.total ≡ total_of_both (verdict_at 32 leaves4.now)
+        (verdict_at 128 leaves6.now)) }
+    ensures list { IfOk result (λ found. found.list ≡ chosen_list (verdict_at 32 leaves4.now)
+        (verdict_at 128 leaves6.now)) }
 {
     let four = sums_of(alloc, leaves4)?;
     let six = sums_of(alloc, leaves6)?;
@@ -149,12 +152,15 @@ pub fn fewest(
 
     ensures same { IfOk result (λ found. IsSame (verdict_at 32 v4.now) (verdict_at 128 v6.now) found.list) }
     ensures shortest { IfOk result (λ found.
-        (other : List FlatTerm) → IsSame (verdict_at 32 v4.now) (verdict_at 128 v6.now) other → length found.list ≤ length other) }
+        (other : List FlatTerm) → IsSame (verdict_at 32 v4.now) (verdict_at 128 v6.now) other
+        → length found.list ≤ length other) }
     ensures counted { IfOk result (λ found. found.total ≡ length found.list) }
 
     ensures prefixes { IfOk result (λ found. HavePrefixes found.list) }
-    ensures gives4 { IfOk result (λ found. (a : ℕ) → a < 2 ^ 32 → first found.list (address.V4 a) ≡ verdict_at 32 v4.now a) }
-    ensures gives6 { IfOk result (λ found. (a : ℕ) → a < 2 ^ 128 → first found.list (address.V6 a) ≡ verdict_at 128 v6.now a) }
+    ensures gives4 { IfOk result (λ found. (a : ℕ) → a < 2 ^ 32
+        → first found.list (address.V4 a) ≡ verdict_at 32 v4.now a) }
+    ensures gives6 { IfOk result (λ found. (a : ℕ) → a < 2 ^ 128
+        → first found.list (address.V6 a) ≡ verdict_at 128 v6.now a) }
 {
     let leaves4 = v4.leaves()?;
     let leaves6 = v6.leaves()?;

@@ -10,7 +10,8 @@ pub record Left : Type 0 where
   pub line : ℕ
   pub bytes : List ℕ
 
--- project's own choice: entries without a token are passed over. The next one that has a token, and the line and the bytes behind it
+-- project's own choice: entries without a token are passed over. The next one that has a token, and the line and the
+-- bytes behind it
 pub record IsNext (line : ℕ) (bytes : List ℕ) (entry : Entry) (line_behind : ℕ) (behind : List ℕ) : Type 0 where
   pub passed : List Entry
   pub no_tokens : filter has_token passed ≡ []

@@ -40,7 +40,7 @@ abbrev pub opening_text : Bool → List ℕ
 opening_text true = 34 ∷ []
 opening_text false = []
 
--- RFC 1035, 5.1: the bytes of an escape that is not yet whole
+-- RFC 1035, section 5.1: the bytes of an escape that is not yet whole
 abbrev pub escape_text : Escape → List ℕ
 escape_text Unescaped = []
 escape_text Slash = 92 ∷ []
@@ -55,20 +55,22 @@ HasBegun which glyphs Slash = ⊤
 HasBegun which glyphs (OneDigit x) = is_ascii_digit x ≡ true
 HasBegun which glyphs (TwoDigits x y) = (is_ascii_digit x ≡ true) × (is_ascii_digit y ≡ true)
 
--- RFC 1035, 5.1: the bytes of an entry come to this part of it, at this depth and behind these tokens
+-- RFC 1035, section 5.1: the bytes of an entry come to this part of it, at this depth and behind these tokens
 abbrev pub ComesTo : List ℕ → ℕ → List Token → Part → Type 0
 ComesTo bytes depth tokens Outside = (items : List Item) × AreDone true items depth tokens × (bytes ≡ items_text items)
 ComesTo bytes depth tokens InComment =
     (items : List Item) × (text : List ℕ) × AreDone false items depth tokens × (not (list_any is_feed text) ≡ true)
     × (bytes ≡ items_text items ++ 59 ∷ text)
 ComesTo bytes depth tokens (InToken is_quoted units escape) =
-    (items : List Item) × (glyphs : List Glyph) × AreDone (not is_quoted) items depth tokens × (list_all (may_stand is_quoted) glyphs ≡ true)
+    (items : List Item) × (glyphs : List Glyph) × AreDone (not is_quoted) items depth tokens
+    × (list_all (may_stand is_quoted) glyphs ≡ true)
     × (units ≡ map octet_of glyphs) × HasBegun is_quoted glyphs escape
     × (bytes ≡ items_text items ++ (opening_text is_quoted ++ (glyphs_text glyphs ++ escape_text escape)))
 
 -- ---- bytes in pieces
 
--- what a `Cutter` keeps: the line on which the open entry begins, the line of the next byte, whether the entry's first byte is a blank, and how far the entry has come
+-- what a `Cutter` keeps: the line on which the open entry begins, the line of the next byte, whether the entry's first
+-- byte is a blank, and how far the entry has come
 pub record Kept : Type 0 where
   pub line : ℕ
   pub here : ℕ
@@ -86,7 +88,8 @@ lead_of (b ∷ bytes) = Some (is_blank b)
 abbrev pub line_number : ℕ → ℕ
 line_number line = min line (2 ^ 64 - 1)
 
--- What is kept stands for the bytes from a line on, of which these entries with a token are closed: however the bytes go on, they are closed entries and then the open one.
+-- What is kept stands for the bytes from a line on, of which these entries with a token are closed: however the bytes
+-- go on, they are closed entries and then the open one.
 pub record StandsFor (first : ℕ) (kept : Kept) (bytes : List ℕ) (given : List Entry) : Type 0 where
   pub entries : List Entry
   pub rest : List ℕ
@@ -119,7 +122,8 @@ pub record IsDecidedAt (first : ℕ) (bytes : List ℕ) (given : List Entry) (li
   pub fault : IsBroken rest kind place
   pub decided : IsDecided rest kind place
 
--- the byte behind the bytes closes this entry, which has a token, however the file goes on; the next one begins on the line
+-- the byte behind the bytes closes this entry, which has a token, however the file goes on; the next one begins on the
+-- line
 pub record Closes (first : ℕ) (bytes : List ℕ) (given : List Entry) (byte : ℕ) (entry : Entry) (line : ℕ) : Type 0 where
   pub before : List Entry
   pub last : ℕ

@@ -1,4 +1,5 @@
--- What a byte does to an open entry. The private functions answer it, and no public contract cites it: proofs/ shows that it is what the definitions say.
+-- What a byte does to an open entry. The private functions answer it, and no public contract cites it: proofs/ shows
+-- that it is what the definitions say.
 use Rattle.std.specs.Prelude.{ℕ, zero, suc, ◌+◌, ◌-◌, ◌*◌, Bool, true, false, ◌&&◌, List, [], ◌∷◌, ◌++◌, ◌==◌, if◌then◌else◌, min, ◌^◌, Option, Some, None, Result, Ok, Err}
 use Rattle.std.specs.Char.{is_ascii_digit}
 use Rattle.master_lex.specs.declared.entry.Octet.{Octet}
@@ -39,7 +40,7 @@ at_mark d tokens b =
     else (if b == 34 then Goes d tokens (InToken true [] Unescaped)
     else Goes d tokens (InToken false [] Slash))))))
 
--- RFC 1035, 5.1: the value of three decimal digits, given as their bytes
+-- RFC 1035, section 5.1: the value of three decimal digits, given as their bytes
 abbrev pub value_of : ℕ → ℕ → ℕ → ℕ
 value_of x y z = 100 * (x - 48) + 10 * (y - 48) + (z - 48)
 

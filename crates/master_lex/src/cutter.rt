@@ -101,14 +101,19 @@ impl Cutter {
     /// Takes a byte, and gives the entry that it closes, if that has a token. `Bad` comes with the byte that decides
     /// that an entry is broken, and names the line on which that entry begins.
     pub fn step(self, byte: u8) -> Result<(Cutter, Option<Entry>), LexFault>
-        ensures taken { (first : ℕ) (bytes : List ℕ) (given : List Entry) → StandsFor first self bytes given → first + length bytes < 2 ^ 64
+        ensures taken { (first : ℕ) (bytes : List ℕ) (given : List Entry) → StandsFor first self bytes given
+            → first + length bytes < 2 ^ 64
             → IfOk result (λ r. StandsFor first r.0 (bytes ++ byte ∷ []) (given ++ option_to_list r.1)) }
-        ensures closed { (first : ℕ) (bytes : List ℕ) (given : List Entry) → StandsFor first self bytes given → first + length bytes < 2 ^ 64
+        ensures closed { (first : ℕ) (bytes : List ℕ) (given : List Entry) → StandsFor first self bytes given
+            → first + length bytes < 2 ^ 64
             → IfOk result (λ r. IfSome r.1 (λ entry. Closes first bytes given byte entry r.0.line)) }
-        ensures bad { (first : ℕ) (bytes : List ℕ) (given : List Entry) → StandsFor first self bytes given → first + length bytes < 2 ^ 64
+        ensures bad { (first : ℕ) (bytes : List ℕ) (given : List Entry) → StandsFor first self bytes given
+            → first + length bytes < 2 ^ 64
             → IfErr result (FaultIs (IsDecidedAt first (bytes ++ byte ∷ []) given)) }
-        ensures not_bad { (first : ℕ) (bytes : List ℕ) (given : List Entry) → StandsFor first self bytes given → first + length bytes < 2 ^ 64
-            → OnOk result ((before : List Entry) (line : ℕ) (kind : LexKind) → ¬ IsDecidedAt first (bytes ++ byte ∷ []) before line kind) }
+        ensures not_bad { (first : ℕ) (bytes : List ℕ) (given : List Entry) → StandsFor first self bytes given
+            → first + length bytes < 2 ^ 64
+            → OnOk result ((before : List Entry) (line : ℕ) (kind : LexKind)
+            → ¬ IsDecidedAt first (bytes ++ byte ∷ []) before line kind) }
     {
         let Cutter {
             alloc,
@@ -156,7 +161,8 @@ impl Cutter {
         ensures bad { (first : ℕ) (bytes : List ℕ) (given : List Entry) → StandsFor first self bytes given
             → IfErr result (FaultIs (IsBrokenAt first bytes given)) }
         ensures not_bad { (first : ℕ) (bytes : List ℕ) (given : List Entry) → StandsFor first self bytes given
-            → OnOk result ((before : List Entry) (line : ℕ) (kind : LexKind) → ¬ IsBrokenAt first bytes before line kind) }
+            → OnOk result ((before : List Entry) (line : ℕ) (kind : LexKind)
+            → ¬ IsBrokenAt first bytes before line kind) }
     {
         let Cutter {
             alloc: _,

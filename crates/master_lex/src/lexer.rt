@@ -17,7 +17,8 @@ fn next_entry(
 ) -> Result<(Option<Entry>, u64, &[u8]), LexFault>
     requires counted { 0 < line }
     requires few { line + length bytes.now ≤ 2 ^ 63 }
-    ensures entry { IfOk result (λ r. MatchOption r.0 (IsNoneLeft line bytes.now) (λ entry. IsNext line bytes.now entry r.1 r.2.now)) }
+    ensures entry { IfOk result (λ r. MatchOption r.0 (IsNoneLeft line bytes.now)
+        (λ entry. IsNext line bytes.now entry r.1 r.2.now)) }
     ensures none { IfOk result (λ r. IfNone r.0 (r.2.now ≡ [])) }
     ensures counted { IfOk result (λ r. (0 < r.1) × (r.1 + length r.2.now ≤ 2 ^ 63)) }
     ensures bad { IfErr result (FaultIs (IsNextBroken line bytes.now)) }

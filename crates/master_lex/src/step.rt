@@ -150,7 +150,8 @@ fn step_plain(
     units: Units,
     byte: u8,
 ) -> Result<Step, AllocError>
-    ensures { depth + 1 < 2 ^ 64 → IfOk result (λ s. s ≡ steps.step depth tokens (Part.InToken false units Escape.Unescaped) byte) }
+    ensures { depth + 1 < 2 ^ 64 → IfOk result (λ s. s ≡ steps.step depth tokens
+        (Part.InToken false units Escape.Unescaped) byte) }
 {
     if !ends_plain(byte) {
         let units = with_octet(units, byte, false)?;
@@ -249,7 +250,8 @@ fn step_two_digits(
     digits: (u8, u8),
     byte: u8,
 ) -> Result<Step, AllocError>
-    ensures { IfOk result (λ s. s ≡ steps.step depth tokens (Part.InToken quoted units (Escape.TwoDigits digits.0 digits.1)) byte) }
+    ensures { IfOk result (λ s. s ≡ steps.step depth tokens
+        (Part.InToken quoted units (Escape.TwoDigits digits.0 digits.1)) byte) }
 {
     let octet = octet_of_digits(digits.0, digits.1, byte);
     match octet {

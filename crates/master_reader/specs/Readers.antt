@@ -21,7 +21,8 @@ pub record Kept : Type 0 where
   pub context : Context
   pub records : List Record
 
--- what is kept stands for these bytes of a file of the zone: their closed entries have no fault, and lead to the context and the records
+-- what is kept stands for these bytes of a file of the zone: their closed entries have no fault, and lead to the
+-- context and the records
 pub record StandsFor (zone : List (List ℕ)) (kept : Kept) (bytes : List ℕ) : Type 0 where
   pub given : List Entry
   pub origin : kept.zone ≡ zone
@@ -31,13 +32,15 @@ pub record StandsFor (zone : List (List ℕ)) (kept : Kept) (bytes : List ℕ) :
 -- the bytes begin with a broken entry, however they go on
 abbrev pub StartsDecided : List ℕ → Kind → Type 0
 StartsDecided bytes kind =
-    (broken : LexKind) × (place : ℕ) × IsBroken bytes broken place × IsDecided bytes broken place × (kind ≡ kind_of broken)
+    (broken : LexKind) × (place : ℕ) × IsBroken bytes broken place × IsDecided bytes broken place
+    × (kind ≡ kind_of broken)
 
 -- the bytes begin with an entry that has no meaning, and that is closed, however they go on
 abbrev pub ClosesFaulty : Context → List ℕ → Kind → Type 0
 ClosesFaulty context bytes kind =
     (text after : List ℕ) × (bytes ≡ text ++ after)
-    × ((entry : Entry) × ((more : List ℕ) → Spells text (after ++ more) entry) × IsTrue (has_token entry) × IsFaulty context entry kind)
+    × ((entry : Entry) × ((more : List ℕ) → Spells text (after ++ more) entry) × IsTrue (has_token entry)
+    × IsFaulty context entry kind)
 
 -- a broken or faulty entry is decided in the bytes; the first one begins on this line, and has this kind of fault
 pub record DecidesFault (zone : List (List ℕ)) (bytes : List ℕ) (line : ℕ) (kind : Kind) : Type 0 where

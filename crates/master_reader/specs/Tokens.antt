@@ -34,7 +34,8 @@ is_one test [] = false
 is_one test (o ∷ []) = test o
 is_one test (o ∷ p ∷ more) = false
 
--- RFC 1035, 2.3.3: the bytes are the word without regard to the case of ASCII letters; the word is in lower case
+-- RFC 1035, section 2.3.3: the bytes are the word without regard to the case of ASCII letters; the word is in lower
+-- case
 abbrev pub is_word : Token → List ℕ → Bool
 is_word token word = bytes_eq (str_to_ascii_lowercase (bytes_of token)) word
 
@@ -42,7 +43,7 @@ is_word token word = bytes_eq (str_to_ascii_lowercase (bytes_of token)) word
 abbrev pub are_digits : List ℕ → Bool
 are_digits bytes = nat_lt 0 (length bytes) && list_all is_ascii_digit bytes
 
--- RFC 3597, 5: the bytes are the word, without regard to case, and then digits
+-- RFC 3597, section 5: the bytes are the word, without regard to case, and then digits
 abbrev pub is_numbered_word : Token → List ℕ → Bool
 is_numbered_word token word =
     bytes_eq (take (length word) (str_to_ascii_lowercase (bytes_of token))) word
@@ -59,14 +60,15 @@ abbrev pub or_bad_name : Result (List (List ℕ)) NameFault → Result (List (Li
 or_bad_name (Ok name) = Ok name
 or_bad_name (Err fault) = Err BadName
 
--- RFC 1035, 5.1: labels are cut at the dots without a `\`; a final such dot makes the name absolute, else the origin follows
+-- RFC 1035, section 5.1: labels are cut at the dots without a `\`; a final such dot makes the name absolute, else the
+-- origin follows
 abbrev pub name_of_units : List (List ℕ) → List Octet → Result (List (List ℕ)) Kind
 name_of_units origin units =
     let dot = is_unescaped 46 in
     let labels = map bytes_in (slice_split dot (without_final dot units)) in
     or_bad_name (name_of_labels (if ends_so dot units then labels else labels ++ origin))
 
--- RFC 1035, 5.1: a plain `@` (64) without a `\` is the origin, and one dot without a `\` the root
+-- RFC 1035, section 5.1: a plain `@` (64) without a `\` is the origin, and one dot without a `\` the root
 abbrev pub name_in : List (List ℕ) → Token → Result (List (List ℕ)) Kind
 name_in origin token =
     if not token.quoted && is_one (is_unescaped 64) token.units then Ok origin

@@ -45,6 +45,6 @@ abbrev pub are_groups : List ℕ → Bool
 are_groups bytes =
     nat_lt 0 (length bytes) && list_all is_group (groups_in bytes) && nat_le (sum_by seconds_of (groups_in bytes)) 4294967295
 
--- RFC 1035, 5.1: digits alone; or groups, which are the project's own choice, as is the greatest value
+-- RFC 1035, section 5.1: digits alone; or groups, which are the project's own choice, as is the greatest value
 abbrev pub is_ttl : List ℕ → Bool
 is_ttl bytes = (are_digits bytes && nat_le (digits_value 10 bytes) 4294967295) || are_groups bytes

@@ -25,7 +25,8 @@ pub const MAX_TEXT: usize = 65_535;
 
 /// The token, where there is one alone.
 pub(crate) fn only_token(tokens: &[Token]) -> Result<&Token, Kind>
-    ensures { MatchResult result (λ token. entries.only_token tokens.now ≡ Ok token.now) (λ kind. entries.only_token tokens.now ≡ Err kind) }
+    ensures { MatchResult result (λ token. entries.only_token tokens.now ≡ Ok token.now)
+        (λ kind. entries.only_token tokens.now ≡ Err kind) }
 {
     match tokens {
         [token] => Ok(token),
@@ -45,7 +46,9 @@ fn only_bare(tokens: &[Token]) -> Option<&Token>
 
 /// The number of an address (RFC 1035, section 3.4.1, and RFC 3596, section 2.2).
 fn number_of_address<W: AddressFamily>(alloc: Global, content: &[Token]) -> Result<W, Refusal>
-    ensures { MatchResult result (λ a. IsAddressBody W.family content.now (Ok (address_body (address_of W.family (W.number a))))) (RefusalIs (λ kind. IsAddressBody W.family content.now (Err kind))) }
+    ensures { MatchResult result (λ a. IsAddressBody W.family content.now
+        (Ok (address_body (address_of W.family (W.number a)))))
+        (RefusalIs (λ kind. IsAddressBody W.family content.now (Err kind))) }
 {
     let Some(token) = only_bare(content) else {
         return Err(Refusal::Faulty(Kind::BadData));
@@ -117,7 +120,8 @@ fn strings_of(alloc: Global, content: &[Token]) -> Result<Text, AllocError>
 
 /// A text (RFC 1035, section 3.3.14).
 fn text_of(alloc: Global, content: &[Token]) -> Result<Text, Refusal>
-    ensures { MatchResult result (λ text. txt_body content.now ≡ Ok (bodies.Txt text)) (RefusalIs (λ kind. txt_body content.now ≡ Err kind)) }
+    ensures { MatchResult result (λ text. txt_body content.now ≡ Ok (bodies.Txt text))
+        (RefusalIs (λ kind. txt_body content.now ≡ Err kind)) }
 {
     if content.is_empty() {
         return Err(Refusal::Faulty(Kind::BadData));
@@ -135,7 +139,8 @@ fn other_body_of(
     kind: &Token,
     content: &[Token],
 ) -> Result<Body, Refusal>
-    ensures { MatchResult result (λ body. other_body origin.now kind.now content.now ≡ Ok body) (RefusalIs (λ fault. other_body origin.now kind.now content.now ≡ Err fault)) }
+    ensures { MatchResult result (λ body. other_body origin.now kind.now content.now ≡ Ok body)
+        (RefusalIs (λ fault. other_body origin.now kind.now content.now ≡ Err fault)) }
 {
     if is_word(kind, b"cname") {
         Ok(Body::Cname(only_name(origin, content)?))
@@ -158,7 +163,8 @@ pub(crate) fn body_of(
     kind: &Token,
     content: &[Token],
 ) -> Result<Body, Refusal>
-    ensures { MatchResult result (λ body. IsBody origin.now kind.now content.now (Ok body)) (RefusalIs (λ fault. IsBody origin.now kind.now content.now (Err fault))) }
+    ensures { MatchResult result (λ body. IsBody origin.now kind.now content.now (Ok body))
+        (RefusalIs (λ fault. IsBody origin.now kind.now content.now (Err fault))) }
 {
     if is_word(kind, b"a") {
         Ok(Body::A(number_of_address(alloc, content)?))

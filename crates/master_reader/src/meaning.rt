@@ -43,7 +43,8 @@ fn says_ttl(token: &Token) -> bool
 
 /// Refuses what `$TTL` may not have behind it (RFC 2308, section 4).
 fn check_ttl(operands: &[Token]) -> Result<(), Kind>
-    ensures { MatchResult result (λ _. entries.ttl_ask operands.now ≡ Ok entries.no_record) (λ kind. entries.ttl_ask operands.now ≡ Err kind) }
+    ensures { MatchResult result (λ _. entries.ttl_ask operands.now ≡ Ok entries.no_record)
+        (λ kind. entries.ttl_ask operands.now ≡ Err kind) }
 {
     if says_ttl(only_token(operands)?) {
         Ok(())
@@ -54,7 +55,8 @@ fn check_ttl(operands: &[Token]) -> Result<(), Kind>
 
 /// What a directive asks for.
 fn directive_ask<'a>(origin: &Name, word: &Token, operands: &[Token]) -> Result<Ask<'a>, Kind>
-    ensures { MatchResult result (λ ask. entries.directive_ask origin.now word.now operands.now ≡ Ok (ask_in ask)) (λ kind. entries.directive_ask origin.now word.now operands.now ≡ Err kind) }
+    ensures { MatchResult result (λ ask. entries.directive_ask origin.now word.now operands.now ≡ Ok (ask_in ask))
+        (λ kind. entries.directive_ask origin.now word.now operands.now ≡ Err kind) }
 {
     if is_word(word, b"$origin") {
         Ok(Ask::Origin(only_name(origin, operands)?))
@@ -95,7 +97,8 @@ fn is_other_class(token: &Token) -> bool
 
 /// The tokens behind a TTL and a class, each at most once and in either order (RFC 1035, section 5.1).
 fn behind_ttl_and_class(tokens: &[Token]) -> Result<&[Token], Kind>
-    ensures { MatchResult result (λ behind. entries.behind_ttl_and_class false false tokens.now ≡ Ok behind.now) (λ kind. entries.behind_ttl_and_class false false tokens.now ≡ Err kind) }
+    ensures { MatchResult result (λ behind. entries.behind_ttl_and_class false false tokens.now ≡ Ok behind.now)
+        (λ kind. entries.behind_ttl_and_class false false tokens.now ≡ Err kind) }
 {
     let mut has_ttl = false;
     let mut has_class = false;
@@ -173,7 +176,9 @@ fn is_generic(content: &[Token]) -> bool
 
 /// Splits a type from its data.
 fn split_type(tokens: &[Token]) -> Result<(&Token, &[Token]), Kind>
-    ensures { (owner : List (List ℕ)) → MatchResult result (λ p. entries.typed_ask owner tokens.now ≡ Ok (entries.a_record owner p.0.now p.1.now)) (λ kind. entries.typed_ask owner tokens.now ≡ Err kind) }
+    ensures { (owner : List (List ℕ)) → MatchResult result
+        (λ p. entries.typed_ask owner tokens.now ≡ Ok (entries.a_record owner p.0.now p.1.now))
+        (λ kind. entries.typed_ask owner tokens.now ≡ Err kind) }
 {
     let [kind, content @ ..] = tokens else {
         return Err(Kind::NoType);
@@ -191,7 +196,8 @@ fn split_type(tokens: &[Token]) -> Result<(&Token, &[Token]), Kind>
 
 /// The record of an owner that tokens ask for.
 fn record_ask<'a>(owner: Name, tokens: &'a [Token]) -> Result<Ask<'a>, Kind>
-    ensures { MatchResult result (λ ask. entries.record_ask owner tokens.now ≡ Ok (ask_in ask)) (λ kind. entries.record_ask owner tokens.now ≡ Err kind) }
+    ensures { MatchResult result (λ ask. entries.record_ask owner tokens.now ≡ Ok (ask_in ask))
+        (λ kind. entries.record_ask owner tokens.now ≡ Err kind) }
 {
     let (kind, content) = split_type(behind_ttl_and_class(tokens)?)?;
     Ok(Ask::Record {
@@ -208,7 +214,8 @@ pub(crate) fn ask_of<'a>(
     entry: &'a Entry,
 ) -> Result<Ask<'a>, Kind>
     ensures { MatchResult result
-        (λ ask. entries.ask_of (record { origin = origin.now; owner = option_copied owner.entry }) entry.now ≡ Ok (ask_in ask))
+        (λ ask. entries.ask_of (record { origin = origin.now; owner = option_copied owner.entry }) entry.now ≡ Ok
+        (ask_in ask))
         (λ kind. entries.ask_of (record { origin = origin.now; owner = option_copied owner.entry }) entry.now ≡ Err kind) }
 {
     let tokens = entry.tokens.as_slice();

@@ -42,7 +42,8 @@ fn split_final_dot(units: &[Octet]) -> (&[Octet], bool)
 
 /// The name of the labels that octets are cut into at each dot without a `\`, in front of another name.
 fn name_in_front(units: &[Octet], behind: &Name) -> Result<Name, Kind>
-    ensures { result ≡ tokens.or_bad_name (name_of_labels (map tokens.bytes_in (slice_split (tokens.is_unescaped 46) units.now) ++ behind.now)) }
+    ensures { result ≡ tokens.or_bad_name (name_of_labels
+        (map tokens.bytes_in (slice_split (tokens.is_unescaped 46) units.now) ++ behind.now)) }
 {
     let mut name = behind.clone().unwrap();
     for part in units.rsplit(|octet| is_unescaped(*octet, b'.')) {

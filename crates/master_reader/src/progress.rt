@@ -30,7 +30,8 @@ fn keep_record(
     owner: &Name,
     body: Body,
 ) -> Result<(), AllocError>
-    ensures { OnOk result (records.new ≡ records.old ++ records_kept zone.now (record { owner = owner.now; body = body })) }
+    ensures { OnOk result (records.new ≡ records.old ++ records_kept zone.now
+        (record { owner = owner.now; body = body })) }
 {
     if owner.under(zone) {
         let owner = owner.clone()?;

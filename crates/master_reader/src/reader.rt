@@ -49,11 +49,14 @@ impl Reader {
     /// Takes a piece. `Bad` comes exactly where a broken or faulty entry is decided in the bytes taken, and names the
     /// first one by its line and kind.
     pub fn feed(self, piece: &[u8]) -> Result<Reader, ZoneFault>
-        ensures taken { (zone : List (List ℕ)) (bytes : List ℕ) → StandsFor zone self bytes → length (bytes ++ piece.now) < 2 ^ 64
+        ensures taken { (zone : List (List ℕ)) (bytes : List ℕ) → StandsFor zone self bytes
+            → length (bytes ++ piece.now) < 2 ^ 64
             → IfOk result (λ r. StandsFor zone r (bytes ++ piece.now)) }
-        ensures bad { (zone : List (List ℕ)) (bytes : List ℕ) → StandsFor zone self bytes → length (bytes ++ piece.now) < 2 ^ 64
+        ensures bad { (zone : List (List ℕ)) (bytes : List ℕ) → StandsFor zone self bytes
+            → length (bytes ++ piece.now) < 2 ^ 64
             → IfErr result (FaultIs (DecidesFault zone (bytes ++ piece.now))) }
-        ensures not_bad { (zone : List (List ℕ)) (bytes : List ℕ) → StandsFor zone self bytes → length (bytes ++ piece.now) < 2 ^ 64
+        ensures not_bad { (zone : List (List ℕ)) (bytes : List ℕ) → StandsFor zone self bytes
+            → length (bytes ++ piece.now) < 2 ^ 64
             → OnOk result ((line : ℕ) (kind : Kind) → ¬ DecidesFault zone (bytes ++ piece.now) line kind) }
     {
         let Reader {
@@ -72,8 +75,10 @@ impl Reader {
 
     /// The records of the whole, or its first fault.
     pub fn finish(self) -> Result<Records, ZoneFault>
-        ensures reads { (zone : List (List ℕ)) (bytes : List ℕ) → StandsFor zone self bytes → IfOk result (Reads zone bytes) }
-        ensures bad { (zone : List (List ℕ)) (bytes : List ℕ) → StandsFor zone self bytes → IfErr result (FaultIs (Faults zone bytes)) }
+        ensures reads { (zone : List (List ℕ)) (bytes : List ℕ) → StandsFor zone self bytes
+            → IfOk result (Reads zone bytes) }
+        ensures bad { (zone : List (List ℕ)) (bytes : List ℕ) → StandsFor zone self bytes
+            → IfErr result (FaultIs (Faults zone bytes)) }
         ensures not_bad { (zone : List (List ℕ)) (bytes : List ℕ) → StandsFor zone self bytes
             → OnOk result ((line : ℕ) (kind : Kind) → ¬ Faults zone bytes line kind) }
     {
@@ -90,7 +95,8 @@ impl Reader {
 }
 
 /// The records of a master file at or below the origin, in the file's order (RFC 1035, section 5). `Bad` comes exactly
-/// where the file has no reading, and names the first broken or faulty entry by the line on which it begins and its kind.
+/// where the file has no reading, and names the first broken or faulty entry by the line on which it begins and its
+/// kind.
 pub fn read_zone(alloc: Global, origin: &Name, bytes: &[u8]) -> Result<Records, ZoneFault>
     ensures reads { IfOk result (Reads origin.now bytes.now) }
     ensures bad { IfErr result (FaultIs (Faults origin.now bytes.now)) }

@@ -14,7 +14,8 @@ use Rattle.zone_answers.specs.Answers.{answer_bodies}
 abbrev pub agrees : (bits len host a : ℕ) → Bool
 agrees bits len host a = cut_of bits a len == cut_of bits host len
 
--- RFC 1035, 3.4.1, and RFC 3596, 2.2: the number of the address that a record has, if it is of the family
+-- RFC 1035, section 3.4.1, and RFC 3596, section 2.2: the number of the address that a record has, if it is of the
+-- family
 abbrev pub host_in : Family → Body → Option ℕ
 host_in V4 (A host) = Some host
 host_in V6 (Aaaa host) = Some host

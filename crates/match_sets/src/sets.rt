@@ -20,20 +20,23 @@ fn host_of<W: AddressFamily>(body: &Body) -> Option<W>
 /// Adds the addresses that agree with the host in the first `len` bits.
 fn add_network<W: Width>(set: &mut TrieMap<W, bool>, host: W, len: u32) -> Result<(), AllocError>
     requires { len ≤ W.BITS }
-    ensures { OnOk result ((a : ℕ) → a < 2 ^ W.BITS → value_at W.BITS set.new a ≡ (if agrees W.BITS len (W.number host) a then Some true else value_at W.BITS set.old a)) }
+    ensures { OnOk result ((a : ℕ) → a < 2 ^ W.BITS
+        → value_at W.BITS set.new a ≡ (if agrees W.BITS len
+        (W.number host) a then Some true else value_at W.BITS set.old a)) }
 {
     set.set(Prefix::new(host, len), true)
 }
 
-/// True exactly at the addresses of the family that agree in the first `len` bits with a record of the answer (RFC 7208,
-/// section 5.3). `AllocError` where there is no memory.
+/// True exactly at the addresses of the family that agree in the first `len` bits with a record of the answer (RFC
+/// 7208, section 5.3). `AllocError` where there is no memory.
 pub fn match_family<W: AddressFamily>(
     alloc: Global,
     found: &Answer,
     len: u32,
 ) -> Result<TrieMap<W, bool>, AllocError>
     requires { len ≤ W.BITS }
-    ensures { IfOk result (λ set. (a : ℕ) → a < 2 ^ W.BITS → value_at W.BITS set a ≡ Some (is_matched (matches W.family len a) found.now)) }
+    ensures { IfOk result (λ set. (a : ℕ) → a < 2 ^ W.BITS
+        → value_at W.BITS set a ≡ Some (is_matched (matches W.family len a) found.now)) }
 {
     let mut set = TrieMap::whole(alloc, false)?;
     let bodies = found.bodies();
@@ -49,7 +52,8 @@ pub fn match_family<W: AddressFamily>(
 /// section 5.3). `AllocError` where there is no memory.
 pub fn match4(alloc: Global, found: &Answer, len: u32) -> Result<TrieMap<u32, bool>, AllocError>
     requires { len ≤ 32 }
-    ensures { IfOk result (λ set. (a : ℕ) → a < 2 ^ 32 → value_at 32 set a ≡ Some (is_matched (matches V4 len a) found.now)) }
+    ensures { IfOk result (λ set. (a : ℕ) → a < 2 ^ 32
+        → value_at 32 set a ≡ Some (is_matched (matches V4 len a) found.now)) }
 {
     match_family(alloc, found, len)
 }
@@ -58,7 +62,8 @@ pub fn match4(alloc: Global, found: &Answer, len: u32) -> Result<TrieMap<u32, bo
 /// section 5.3). `AllocError` where there is no memory.
 pub fn match6(alloc: Global, found: &Answer, len: u32) -> Result<TrieMap<u128, bool>, AllocError>
     requires { len ≤ 128 }
-    ensures { IfOk result (λ set. (a : ℕ) → a < 2 ^ 128 → value_at 128 set a ≡ Some (is_matched (matches V6 len a) found.now)) }
+    ensures { IfOk result (λ set. (a : ℕ) → a < 2 ^ 128
+        → value_at 128 set a ≡ Some (is_matched (matches V6 len a) found.now)) }
 {
     match_family(alloc, found, len)
 }

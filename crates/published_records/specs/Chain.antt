@@ -37,8 +37,8 @@ RecordsSpell = (domain label : List ℕ) (terms : List FlatTerm) (k : ℕ) (last
     → SpellsPolicy (record_text domain label terms k last)
     (record { terms = directives_of terms (redirect_terms (next_redirect domain label k last)) })
 
--- RFC 7208, sections 4.8 and 7.3: the redirect of record k leads to the name of the next record, for addresses of either
--- family
+-- RFC 7208, sections 4.8 and 7.3: the redirect of record k leads to the name of the next record, for addresses of
+-- either family
 abbrev pub RecordsLeadOn : Type 0
 RecordsLeadOn = (domain label : List ℕ) (k : ℕ) (family : Family) (at : List ℕ)
     → IsTrue (is_domain domain) → IsTrue (is_label label) → k ≤ 10 → length (record_name domain label (k + 1)) ≤ 253
@@ -66,5 +66,6 @@ AllHavePrefixes (terms ∷ lists) = HavePrefixes terms × AllHavePrefixes lists
 -- RFC 7208, section 6.1: records that stand at their names are a chain from the domain on
 abbrev pub RecordsAreChain : Type 0
 RecordsAreChain = (zones : Answering) (domain label : List ℕ) (name : List (List ℕ)) (terms : List FlatTerm)
-    (lists : List (List FlatTerm)) → AreChainWords domain label → name_of_text domain ≡ Ok name → length lists ≤ 10 → AllHavePrefixes (terms ∷ lists)
+    (lists : List (List FlatTerm)) → AreChainWords domain label → name_of_text domain ≡ Ok name → length lists ≤ 10
+    → AllHavePrefixes (terms ∷ lists)
     → HoldRecords zones domain label name 0 (terms ∷ lists) → IsChain zones domain name (terms ∷ lists)

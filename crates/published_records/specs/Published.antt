@@ -24,8 +24,8 @@ use Rattle.zone_writer.specs.Written.{AreChainWords, record_owner, written_recor
 use Rattle.published_records.specs.Chain.{HoldRecords}
 use Rattle.published_records.specs.Standing.{HoldsName, patched}
 
--- RFC 7208, section 4.6.4: under the limits of a mail receiver check_host gives the address this verdict, by fewer lookups
--- than there are records, so by at most 10, and by no void lookup
+-- RFC 7208, section 4.6.4: under the limits of a mail receiver check_host gives the address this verdict, by fewer
+-- lookups than there are records, so by at most 10, and by no void lookup
 pub record GivesWithin (zones : Answering) (domain : List ℕ) (records : ℕ) (a : Address) (verdict : Verdict)
     : Type 0 where
   pub name : Labels
@@ -41,8 +41,8 @@ abbrev pub AllHaveWithin : Answering → (domain : List ℕ) → (records : ℕ)
 AllHaveWithin zones domain records verdict_of =
     (a : Address) → IsAddress a → GivesWithin zones domain records a (verdict_of a)
 
--- RFC 7208, sections 4.6.4 and 6.1: the records of a cut that stand at their names, in whatever zones, give each address
--- the verdict of the list
+-- RFC 7208, sections 4.6.4 and 6.1: the records of a cut that stand at their names, in whatever zones, give each
+-- address the verdict of the list
 abbrev pub RecordsGive : Type 0
 RecordsGive = (zones : Answering) (domain label : List ℕ) (name : List (List ℕ)) (list : List FlatTerm) (ends : List ℕ)
     → AreChainWords domain label → name_of_text domain ≡ Ok name → HavePrefixes list → IsCut (length list) ends
@@ -54,9 +54,9 @@ abbrev pub records_of : (domain label : List ℕ) → (name : List (List ℕ)) �
 records_of domain label name list ends = written_records domain label name 0 (pieces_from list 0 ends)
 
 -- RFC 7208, section 4: what the bytes of a fragment say where they stand. They are a master file, which is read as the
--- records of the cut, by a reader of the zone of the domain. These may be lent alone. Alone, and also in the zones that were
--- read with the SPF texts at the domain replaced by them, check_host gives each address the verdict of the list, within the
--- limits of a mail receiver
+-- records of the cut, by a reader of the zone of the domain. These may be lent alone. Alone, and also in the zones that
+-- were read with the SPF texts at the domain replaced by them, check_host gives each address the verdict of the list,
+-- within the limits of a mail receiver
 pub record Stands (domain label : List ℕ) (zones : List Zone) (name : List (List ℕ)) (list : List FlatTerm)
     (ends bytes : List ℕ) : Type 0 where
   pub reads : Reads name bytes (records_of domain label name list ends)
@@ -72,8 +72,8 @@ abbrev pub AreNamesFree : List Zone → (name : List (List ℕ)) → (label : Li
 AreNamesFree zones name label records =
     (k : ℕ) → 1 ≤ k → k < records → IsFalse (is_taken zones (record_owner name label k))
 
--- the fragment of a cut that fits stands so, in zones that hold the domain, where it has no alias and the other names are
--- free
+-- the fragment of a cut that fits stands so, in zones that hold the domain, where it has no alias and the other names
+-- are free
 abbrev pub FragmentStands : Type 0
 FragmentStands = (zones : List Zone) (domain label : List ℕ) (ttl size others : ℕ) (list : List FlatTerm)
     (ends : List ℕ) (rows4 rows6 : List NeedRow) (total : ℕ) (name : List (List ℕ))

@@ -28,8 +28,8 @@ abbrev pub is_holder : Option Zone → Zone → Bool
 is_holder None zone = false
 is_holder (Some holder) zone = same_name zone.origin holder.origin
 
--- the zones that were read, of which the one that holds the name is patched. No limit on the number of records is asked of
--- them
+-- the zones that were read, of which the one that holds the name is patched. No limit on the number of records is asked
+-- of them
 abbrev pub patched : (zones : List Zone) → (name : List (List ℕ)) → List Record → List Zone
 patched zones name records =
     map (λ zone. if is_holder (zone_of zones name) zone then patched_zone name records zone else zone) zones

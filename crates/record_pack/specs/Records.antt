@@ -55,7 +55,8 @@ pub record IsCut (len : ℕ) (ends : List ℕ) : Type 0 where
   pub rise : RiseTo 0 len ends
 
 -- the records from record k on fit, whose pieces stand between the ends, from one place on
-abbrev pub RecordsFit : (domain label : List ℕ) → (size others : ℕ) → List FlatTerm → (k from : ℕ) → (ends : List ℕ) → Type 0
+abbrev pub RecordsFit : (domain label : List ℕ) → (size others : ℕ) → List FlatTerm → (k from : ℕ) → (ends : List ℕ)
+    → Type 0
 RecordsFit domain label size others list k from [] = ⊤
 RecordsFit domain label size others list k from (to ∷ []) = Fits domain label size others (piece list from to) k true
 RecordsFit domain label size others list k from (to ∷ next ∷ ends) =
@@ -67,7 +68,8 @@ pub record IsFittingCut (domain label : List ℕ) (size others : ℕ) (list : Li
   pub fit : RecordsFit domain label size others list 0 0 ends
 
 -- each record from record k on but the last takes as many terms as fit
-abbrev pub TakeMost : (domain label : List ℕ) → (size others : ℕ) → List FlatTerm → (k from : ℕ) → (ends : List ℕ) → Type 0
+abbrev pub TakeMost : (domain label : List ℕ) → (size others : ℕ) → List FlatTerm → (k from : ℕ) → (ends : List ℕ)
+    → Type 0
 TakeMost domain label size others list k from [] = ⊤
 TakeMost domain label size others list k from (to ∷ []) = ⊤
 TakeMost domain label size others list k from (to ∷ next ∷ ends) =

@@ -24,7 +24,8 @@ pub fn pack(
     ensures fits { IfOk result (λ cut. IsFittingCut domain.now label.now size others list.now cut.ends) }
     ensures fewest { IfOk result (λ cut. HasFewest domain.now label.now size others list.now cut.ends) }
     ensures greedy { IfOk result (λ cut. TakeMost domain.now label.now size others list.now 0 0 cut.ends) }
-    ensures too_big { IsErrOf result TooBig → (ends : List ℕ) → ¬ IsFittingCut domain.now label.now size others list.now ends }
+    ensures too_big { IsErrOf result TooBig → (ends : List ℕ)
+        → ¬ IsFittingCut domain.now label.now size others list.now ends }
 {
     let mut ends = Ends::new(alloc);
     let mut from = 0;

@@ -52,4 +52,5 @@ network_of (Exists spec) = None
 -- the verdict of the first term that has an address is that of the first which the address's family sees to cover it
 abbrev pub FirstIsSeen : Type 0
 FirstIsSeen =
-    (f : Family) (list : List FlatTerm) (a : ℕ) → HavePrefixes list → first list (address_of f a) ≡ first_rule (seen f list) a
+    (f : Family) (list : List FlatTerm) (a : ℕ) → HavePrefixes list
+    → first list (address_of f a) ≡ first_rule (seen f list) a

@@ -46,7 +46,8 @@ pub record SpellsHosts (spec : Option (List Piece)) (len4 len6 : ℕ) (text : Li
   pub short6 : SpellsLen (codes "//") 128 after6 len6
   pub whole : text ≡ target ++ (after4 ++ after6)
 
--- RFC 7208, section 12: ":" ip4-network [ ip4-cidr-length ], and the same of IPv6. A network is held as the prefix that it lies in
+-- RFC 7208, section 12: ":" ip4-network [ ip4-cidr-length ], and the same of IPv6. A network is held as the prefix that
+-- it lies in
 pub record SpellsNetwork (f : Family) (p : Cidr) (text : List ℕ) : Type 0 where
   pub network : List ℕ
   pub after : List ℕ
@@ -84,8 +85,8 @@ abbrev pub is_name : List ℕ → Bool
 is_name [] = false
 is_name (b ∷ bs) = is_ascii_alphabetic b && list_all is_name_byte bs
 
--- RFC 7208, section 12: unknown-modifier = name "=" macro-string, of a name that no other modifier has; that the name is held in
--- lower case is the project's own choice
+-- RFC 7208, section 12: unknown-modifier = name "=" macro-string, of a name that no other modifier has; that the name
+-- is held in lower case is the project's own choice
 pub record SpellsUnknown (text name : List ℕ) (value : List Piece) : Type 0 where
   pub front : List ℕ
   pub rest : List ℕ
@@ -101,7 +102,8 @@ abbrev pub SpellsTerm : List ℕ → Term → Type 0
 SpellsTerm text (Directive verdict mechanism) =
     (front rest : List ℕ) × SpellsQualifier front verdict × SpellsMechanism rest mechanism × (text ≡ front ++ rest)
 SpellsTerm text (Redirect spec) =
-    SpellsWith (codes "redirect") (λ rest. (value : List ℕ) × SpellsDomainSpec false value spec × (rest ≡ 61 ∷ value)) text
+    SpellsWith (codes "redirect") (λ rest. (value : List ℕ) × SpellsDomainSpec false value spec
+    × (rest ≡ 61 ∷ value)) text
 SpellsTerm text (Exp spec) =
     SpellsWith (codes "exp") (λ rest. (value : List ℕ) × SpellsDomainSpec true value spec × (rest ≡ 61 ∷ value)) text
 SpellsTerm text (Unknown name value) = SpellsUnknown text name value

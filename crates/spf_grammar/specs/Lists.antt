@@ -1,4 +1,5 @@
--- First-match lists of both families (RFC 7208, sections 4.6.2, 4.7 and 5.6), and when such a list gives the verdicts: the project's own form.
+-- First-match lists of both families (RFC 7208, sections 4.6.2, 4.7 and 5.6), and when such a list gives the verdicts:
+-- the project's own form.
 use Rattle.std.specs.Prelude.{ℕ, ◌≡◌, ◌-◌, ◌/◌, ◌^◌, ◌<◌, List, map}
 use Rattle.spf_grammar.specs.declared.verdict.Verdict.{Verdict}
 use Rattle.addr_bits.specs.declared.address.Family.{Family}

@@ -56,13 +56,15 @@ HasNoFirst (b ∷ bs) = (is_slash b ≡ false) ⊎ ((rest : List ℕ) × (bs ≡
 abbrev pub SplitsDual : List ℕ → List ℕ → List ℕ → Type 0
 SplitsDual lens after4 after6 =
     ((after4 ≡ []) × (after6 ≡ lens) × HasNoFirst lens)
-    ⊎ ((digits : List ℕ) × (after4 ≡ 47 ∷ digits) × IsTrue (list_all is_ascii_digit digits) × Pauses is_ascii_digit after6
+    ⊎ ((digits : List ℕ) × (after4 ≡ 47 ∷ digits) × IsTrue (list_all is_ascii_digit digits)
+    × Pauses is_ascii_digit after6
     × Pauses is_slash (digits ++ after6) × (lens ≡ 47 ∷ (digits ++ after6)))
 
 -- RFC 7208, section 12: two lengths, one behind the other
 abbrev pub SpellsDual : List ℕ → ℕ × ℕ → Type 0
 SpellsDual text lens =
-    (after4 after6 : List ℕ) × SpellsLen (codes "/") 32 after4 lens.0 × SpellsLen (codes "//") 128 after6 lens.1 × (text ≡ after4 ++ after6)
+    (after4 after6 : List ℕ) × SpellsLen (codes "/") 32 after4 lens.0 × SpellsLen (codes "//") 128 after6 lens.1
+    × (text ≡ after4 ++ after6)
 
 -- ---- what stands behind the name of a mechanism
 

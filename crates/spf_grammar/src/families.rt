@@ -12,8 +12,8 @@ pub trait NetworkFamily: AddressFamily {
     fn net(prefix: &Prefix<Self>) -> Net
         ensures { result ≡ net_in Self.family prefix.now };
 
-    /// The prefix of the family's addresses that a network has; `None` exactly where it is of the other family. `all` has
-    /// every address (RFC 7208, section 5.1).
+    /// The prefix of the family's addresses that a network has; `None` exactly where it is of the other family. `all`
+    /// has every address (RFC 7208, section 5.1).
     fn part(net: Net) -> Option<Prefix<Self>>
         ensures { result ≡ part_in Self.family net };
 }

@@ -41,7 +41,8 @@ fn split_space(text: &[u8]) -> (&[u8], &[u8])
 
 /// The first word of the text, and the rest; `None` where there are spaces alone.
 fn next_word(text: &[u8]) -> Option<(&[u8], &[u8])>
-    ensures { MatchOption result (IsTrue (list_all grammar.is_space text.now)) (λ r. SplitsWord text.now r.0.now r.1.now) }
+    ensures { MatchOption result (IsTrue (list_all grammar.is_space text.now))
+        (λ r. SplitsWord text.now r.0.now r.1.now) }
 {
     let (_, rest) = split_spaces(text);
     if rest.is_empty() {

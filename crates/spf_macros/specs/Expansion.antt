@@ -26,7 +26,8 @@ abbrev pub family_text : Family → List ℕ
 family_text V4 = codes "in-addr"
 family_text V6 = codes "ip6"
 
--- the value of a letter (RFC 7208, section 7.2), or what it needs. The letters of explanations alone are never asked for
+-- the value of a letter (RFC 7208, section 7.2), or what it needs. The letters of explanations alone are never asked
+-- for
 abbrev pub value_of : Letter → Family → List ℕ → Expanded
 value_of D family domain = Out (without_final_dot domain)
 value_of V family domain = Out (family_text family)

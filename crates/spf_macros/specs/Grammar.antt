@@ -27,11 +27,12 @@ letter_code T = 116
 abbrev pub letter_byte : Letter → Bool → ℕ
 letter_byte letter upper = if upper then letter_code letter - 32 else letter_code letter
 
--- *DIGIT (RFC 7208, section 7.1): how many parts are kept, 0 for all. A written number is not 0, and is held at 255 (the project's
--- own choice, since no text of a domain has more parts)
+-- *DIGIT (RFC 7208, section 7.1): how many parts are kept, 0 for all. A written number is not 0, and is held at 255
+-- (the project's own choice, since no text of a domain has more parts)
 abbrev pub SpellsKeep : List ℕ → ℕ → Type 0
 SpellsKeep [] keep = keep ≡ 0
-SpellsKeep (d ∷ ds) keep = AllDigits 10 (d ∷ ds) × (0 < digits_value 10 (d ∷ ds)) × (keep ≡ min (digits_value 10 (d ∷ ds)) 255)
+SpellsKeep (d ∷ ds) keep = AllDigits 10 (d ∷ ds) × (0 < digits_value 10 (d ∷ ds))
+    × (keep ≡ min (digits_value 10 (d ∷ ds)) 255)
 
 -- [ "r" ] of either case (RFC 7208, section 7.1)
 abbrev pub SpellsReverse : List ℕ → Bool → Type 0
@@ -124,8 +125,8 @@ is_explaining C = true
 is_explaining R = true
 is_explaining T = true
 
--- a piece that may stand outside of explanations: no letter c, r or t (RFC 7208, section 7.2; that they are syntax errors in a
--- directive and in `redirect`, and none in `exp`, is the project's own reading)
+-- a piece that may stand outside of explanations: no letter c, r or t (RFC 7208, section 7.2; that they are syntax
+-- errors in a directive and in `redirect`, and none in `exp`, is the project's own reading)
 abbrev pub is_for_all : Piece → Bool
 is_for_all (Literal b) = true
 is_for_all Percent = true
@@ -145,8 +146,8 @@ pub record SpellsDomainSpec (explain : Bool) (text : List ℕ) (pieces : List Pi
   pub whole : text ≡ front ++ end
   pub all : pieces ≡ begins ++ ends
 
--- the written form of a macro: the letter in its case, the number, `r` in lower case, the delimiters in the grammar's order
--- (the project's own choice among its spellings)
+-- the written form of a macro: the letter in its case, the number, `r` in lower case, the delimiters in the grammar's
+-- order (the project's own choice among its spellings)
 abbrev pub written_macro : Macro → List ℕ
 written_macro m = codes "%{" ++ (letter_byte m.letter m.upper ∷ ((if m.keep == 0 then [] else decimal m.keep)
     ++ ((if m.reverse then codes "r" else []) ++ (filter (is_in_set m.delims) (codes ".-+,/_=") ++ codes "}"))))

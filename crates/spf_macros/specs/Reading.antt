@@ -42,4 +42,5 @@ SpellsBehind text m = SpellsMacro (37 ∷ 123 ∷ text) m
 
 -- RFC 7208, section 7.1: the last piece is a macro-expand
 abbrev pub EndsInExpand : List Piece → Type 0
-EndsInExpand pieces = (begins : List Piece) × (piece : Piece) × IsTrue (is_expand piece) × (pieces ≡ begins ++ piece ∷ [])
+EndsInExpand pieces = (begins : List Piece) × (piece : Piece) × IsTrue (is_expand piece)
+    × (pieces ≡ begins ++ piece ∷ [])

@@ -16,7 +16,8 @@ const MAX_TARGET: usize = 253;
 /// What stands behind the first dot; `None` exactly where there is no dot.
 fn behind_dot(text: &[u8]) -> Option<&[u8]>
     ensures { MatchOption result (expansion.after_dots text.now ≡ [])
-        (λ rest. (expansion.after_dots text.now ≡ rest.now ∷ expansion.after_dots rest.now) × (length rest.now < length text.now)) }
+        (λ rest. (expansion.after_dots text.now ≡ rest.now ∷ expansion.after_dots rest.now)
+        × (length rest.now < length text.now)) }
 {
     let mut rest = text;
     while let [byte, behind @ ..] = rest {

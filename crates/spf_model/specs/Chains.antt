@@ -42,7 +42,8 @@ abbrev pub redirect_terms : Option (List Piece) → List Term
 redirect_terms None = []
 redirect_terms (Some spec) = Redirect spec ∷ []
 
--- RFC 7208, section 4.5: the answer has one SPF text, which spells these networks and then the redirect, if there is one
+-- RFC 7208, section 4.5: the answer has one SPF text, which spells these networks and then the redirect, if there is
+-- one
 pub record IsFlatRecord (found : Answer) (terms : List FlatTerm) (redirect : Option (List Piece)) : Type 0 where
   pub bodies : List Body
   pub text : List ℕ
@@ -59,7 +60,8 @@ StandsAt zones (label ∷ []) terms redirect = ⊥
 StandsAt zones (label ∷ next ∷ labels) terms redirect =
     IsFlatRecord (zones (record { name = label ∷ next ∷ labels; kind = kind.Txt })) terms redirect
 
--- RFC 7208, section 6.1: where the redirect of a record at a domain leads, for addresses of either family: a domain and its name
+-- RFC 7208, section 6.1: where the redirect of a record at a domain leads, for addresses of either family: a domain and
+-- its name
 pub record LeadsOn (domain : List ℕ) (spec : List Piece) (text : List ℕ) (name : Labels) : Type 0 where
   pub reached : (family : Family) → target family domain spec ≡ Out text
   pub named : name_of text ≡ Some name
@@ -77,9 +79,10 @@ abbrev pub all_terms : List (List FlatTerm) → List FlatTerm
 all_terms [] = []
 all_terms (terms ∷ lists) = terms ++ all_terms lists
 
--- RFC 7208, section 6.1: the evaluation of a chain gives the address the verdict of the first of all terms that has it, with fewer
--- lookups than records and no void
-pub record GivesFlat (zones : Answering) (limits : Limits) (a : Address) (domain : List ℕ) (name : Labels) (lists : List (List FlatTerm)) : Type 0 where
+-- RFC 7208, section 6.1: the evaluation of a chain gives the address the verdict of the first of all terms that has it,
+-- with fewer lookups than records and no void
+pub record GivesFlat (zones : Answering) (limits : Limits) (a : Address) (domain : List ℕ) (name : Labels)
+    (lists : List (List FlatTerm)) : Type 0 where
   pub counts : Counts
   pub ends : EndsWith zones (check_host limits a domain name) (Is (first (all_terms lists) a)) counts
   pub lookups : counts.lookups < length lists

@@ -32,7 +32,8 @@ abbrev pub unless_matched : Verdict → (Counts → Run) → Bool → Counts →
 unless_matched verdict next true counts = Ends (Is verdict) counts
 unless_matched verdict next false counts = next counts
 
--- the number of the term after this one. A number is held at the last one of 32 bits, which no term of a record of 65,535 octets has
+-- the number of the term after this one. A number is held at the last one of 32 bits, which no term of a record of
+-- 65,535 octets has
 abbrev pub term_after : ℕ → ℕ
 term_after t = min (t + 1) 4294967295
 
@@ -43,7 +44,8 @@ trying judges t (Redirect spec) counts next = next counts
 trying judges t (Exp spec) counts next = next counts
 trying judges t (Unknown name value) counts next = next counts
 
--- RFC 7208, sections 4.6.2 and 4.7: the directives in order, where terms are numbered from t; then what comes where none matches
+-- RFC 7208, sections 4.6.2 and 4.7: the directives in order, where terms are numbered from t; then what comes where
+-- none matches
 abbrev pub tried : Judge → ℕ → List Term → Counts → (Counts → Run) → Run
 tried judges t [] counts last = last counts
 tried judges t (term ∷ terms) counts last = trying judges t term counts (λ counts. tried judges (term_after t) terms counts last)
@@ -56,7 +58,8 @@ redirect_from t (Directive verdict mechanism ∷ terms) = redirect_from (term_af
 redirect_from t (Exp spec ∷ terms) = redirect_from (term_after t) terms
 redirect_from t (Unknown name value ∷ terms) = redirect_from (term_after t) terms
 
--- RFC 7208, sections 4.7 and 6.1: neutral where no directive matches, and the target's verdict where there is a redirect
+-- RFC 7208, sections 4.7 and 6.1: neutral where no directive matches, and the target's verdict where there is a
+-- redirect
 abbrev pub default : Site → Sub → Counts → Option (ℕ × List Piece) → Run
 default site sub counts None = Ends (Is Neutral) counts
 default site sub counts (Some redirect) = with_verdict site sub redirect.0 redirect.1 counts (λ verdict counts. Ends (Is verdict) counts)
@@ -97,7 +100,8 @@ with_texts name counts [] go = Ends (Nothing (record { name = name; term = 0 }))
 with_texts name counts (text ∷ []) go = Reads text (λ policy. with_policy name counts policy go)
 with_texts name counts (text ∷ next ∷ texts) go = Ends (Perm cause.Records (record { name = name; term = 0 })) counts
 
--- RFC 7208, sections 4.4 and 4.5: the SPF texts of an answer; what leads out of the zones or round is the project's own choice
+-- RFC 7208, sections 4.4 and 4.5: the SPF texts of an answer; what leads out of the zones or round is the project's own
+-- choice
 abbrev pub with_answer : Labels → Counts → Answer → (List Term → Run) → Run
 with_answer name counts answer.Outside go = Ends (Unsettled cause.Outside (record { name = name; term = 0 })) counts
 with_answer name counts answer.Loop go = Ends (Temp cause.Alias (record { name = name; term = 0 })) counts
@@ -110,12 +114,13 @@ abbrev pub with_record : Labels → Counts → (List Term → Run) → Run
 with_record [] counts go = Ends (Nothing (record { name = []; term = 0 })) counts
 with_record (label ∷ []) counts go = Ends (Nothing (record { name = label ∷ []; term = 0 })) counts
 with_record (label ∷ next ∷ labels) counts go =
-    Asks (record { name = label ∷ next ∷ labels; kind = kind.Txt }) (λ found. with_answer (label ∷ next ∷ labels) counts found go)
+    Asks (record { name = label ∷ next ∷ labels; kind = kind.Txt })
+    (λ found. with_answer (label ∷ next ∷ labels) counts found go)
 
 -- ---- the recursion
 
--- RFC 7208, section 4: check_host at a domain, with counts, where records are nested at most so deep. A lookup is counted at each
--- step down, so a depth of one more than the limit on lookups is never used up
+-- RFC 7208, section 4: check_host at a domain, with counts, where records are nested at most so deep. A lookup is
+-- counted at each step down, so a depth of one more than the limit on lookups is never used up
 abbrev pub check : Limits → Address → ℕ → Sub
 check limits a zero domain name counts = Ends (Perm cause.Lookups (record { name = name; term = 0 })) counts
 check limits a (suc depth) domain name counts =

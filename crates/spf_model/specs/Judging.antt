@@ -72,8 +72,8 @@ abbrev pub counted : Site → ℕ → Counts → (Counts → Run) → Run
 counted site t counts go = let more = record counts { lookups = counts.lookups + 1 } in
     go_if (nat_le more.lookups site.limits.lookups) (Perm cause.Lookups (at site t)) more go
 
--- RFC 7208, section 4.6.4: a term of which some answer was void counts one void lookup, which must be within the limit; that it
--- counts one at most, and before its match is judged, is the project's own choice
+-- RFC 7208, section 4.6.4: a term of which some answer was void counts one void lookup, which must be within the limit;
+-- that it counts one at most, and before its match is judged, is the project's own choice
 abbrev pub void_counted : Site → ℕ → Bool → Counts → (Counts → Run) → Run
 void_counted site t false counts go = go counts
 void_counted site t true counts go = let more = record counts { voids = counts.voids + 1 } in
@@ -110,8 +110,8 @@ abbrev pub with_name : Outcome → Counts → Option Labels → (Labels → Run)
 with_name outcome counts None go = Ends outcome counts
 with_name outcome counts (Some name) go = go name
 
--- RFC 7208, section 4.8: the name of hosts that a term asks for, its target. That one which is no name is left open is the project's
--- own choice
+-- RFC 7208, section 4.8: the name of hosts that a term asks for, its target. That one which is no name is left open is
+-- the project's own choice
 abbrev pub naming : Site → ℕ → Option (List Piece) → Counts → (Labels → Run) → Run
 naming site t spec counts go =
     with_target site t counts spec (λ text. with_name (Unsettled cause.Target (at site t)) counts (name_of text) go)
@@ -120,8 +120,8 @@ naming site t spec counts go =
 abbrev pub with_host : Site → ℕ → Option (List Piece) → Counts → (Labels → Counts → Run) → Run
 with_host site t spec counts go = counted site t counts (λ counts. naming site t spec counts (λ name. go name counts))
 
--- RFC 7208, sections 5.2 and 6.1: the domain whose record a term asks for, its target as a text and as a name; one which is no name is
--- an error
+-- RFC 7208, sections 5.2 and 6.1: the domain whose record a term asks for, its target as a text and as a name; one
+-- which is no name is an error
 abbrev pub naming_target : Site → ℕ → List Piece → Counts → (List ℕ × Labels → Run) → Run
 naming_target site t spec counts go =
     with_target site t counts (Some spec) (λ text. with_name (Perm cause.Missing (at site t)) counts (name_of text) (λ name. go (text, name)))
@@ -131,8 +131,8 @@ abbrev pub with_domain : Site → ℕ → List Piece → Counts → (List ℕ �
 with_domain site t spec counts go =
     counted site t counts (λ counts. naming_target site t spec counts (λ found. go found.0 found.1 counts))
 
--- project's own choice: an answer to a term's question that leads out of the zones leaves the run open, and one that goes round
--- is an error (after RFC 7208, sections 2.6.6 and 5)
+-- project's own choice: an answer to a term's question that leads out of the zones leaves the run open, and one that
+-- goes round is an error (after RFC 7208, sections 2.6.6 and 5)
 abbrev pub answered : Site → ℕ → Counts → (Answer → Run) → Answer → Run
 answered site t counts go answer.Outside = Ends (Unsettled cause.Outside (at site t)) counts
 answered site t counts go answer.Loop = Ends (Temp cause.Alias (at site t)) counts
@@ -195,15 +195,16 @@ body_agrees len4 len6 a body.Other = false
 abbrev pub some_agrees : ℕ → ℕ → Address → List Answer → Bool
 some_agrees len4 len6 a answers = list_any (λ found. list_any (body_agrees len4 len6 a) (answer_bodies found)) answers
 
--- RFC 7208, sections 5.3 and 5.4: asks for the addresses of these hosts, counts a void, and goes on with whether one agrees. That
--- the term had a void answer before counts for its void
+-- RFC 7208, sections 5.3 and 5.4: asks for the addresses of these hosts, counts a void, and goes on with whether one
+-- agrees. That the term had a void answer before counts for its void
 abbrev pub match_hosts : Site → ℕ → Counts → ℕ → ℕ → Bool → List Labels → (Bool → Counts → Run) → Run
 match_hosts site t counts len4 len6 before hosts go =
     ask_all site t counts (map (address_question site.address) hosts) (λ answers.
     void_counted site t (before || list_any is_void answers) counts
     (λ counted. go (some_agrees len4 len6 site.address answers) counted))
 
--- RFC 7505, section 3: the exchange of an MX record that is not the root; that the root is skipped is the project's own choice
+-- RFC 7505, section 3: the exchange of an MX record that is not the root; that the root is skipped is the project's own
+-- choice
 abbrev pub exchange_of : Body → Option Labels
 exchange_of (body.Mx preference []) = None
 exchange_of (body.Mx preference (label ∷ labels)) = Some (label ∷ labels)
@@ -221,8 +222,8 @@ match_exchanges site t counts len4 len6 found go =
     go_if (nat_le (length exchanges) site.limits.exchanges) (Perm cause.Exchanges (at site t)) counts
     (λ counts. match_hosts site t counts len4 len6 (is_void found) exchanges go)
 
--- RFC 7208, sections 5.2 and 6.1: what a term makes of the outcome of the record that it asks for. It goes on with a verdict; that there
--- is no record is an error; everything else ends it
+-- RFC 7208, sections 5.2 and 6.1: what a term makes of the outcome of the record that it asks for. It goes on with a
+-- verdict; that there is no record is an error; everything else ends it
 abbrev pub judged_by : Site → ℕ → (Verdict → Counts → Run) → Outcome → Counts → Run
 judged_by site t go (Is verdict) counts = go verdict counts
 judged_by site t go (Nothing place) counts = Ends (Perm cause.Missing (at site t)) counts

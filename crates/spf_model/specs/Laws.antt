@@ -22,8 +22,8 @@ pub record RestsOnItsQuestions : Type 0 where
   pub asks : (zones others : Answering) (run : Run) (question : Question)
       → SameAnswers zones others run → AsksFor zones run question → AsksFor others run question
 
--- a run is one dialogue: it has one list of questions, in one order, and one outcome with its counts, and no run has none. It ends as
--- its dialogue does, and the questions that it asks are those of the list
+-- a run is one dialogue: it has one list of questions, in one order, and one outcome with its counts, and no run has
+-- none. It ends as its dialogue does, and the questions that it asks are those of the list
 pub record OneEnd : Type 0 where
   pub one : (zones : Answering) (run : Run) (questions others : List Question) (o p : Outcome) (c d : Counts)
       → IsDialogue zones run questions o c → IsDialogue zones run others p d → (questions ≡ others) × (o ≡ p) × (c ≡ d)
@@ -32,18 +32,22 @@ pub record OneEnd : Type 0 where
   pub ends : (zones : Answering) (run : Run) (o : Outcome) (c : Counts)
       → EndsWith zones run o c ↔ ((questions : List Question) × IsDialogue zones run questions o c)
   pub asks : (zones : Answering) (run : Run) (questions : List Question) (o : Outcome) (c : Counts)
-      → IsDialogue zones run questions o c → (question : Question) → AsksFor zones run question ↔ Contains questions question
-  pub one_end : (zones : Answering) (run : Run) (o p : Outcome) (c d : Counts) → EndsWith zones run o c → EndsWith zones run p d → (o ≡ p) × (c ≡ d)
+      → IsDialogue zones run questions o c → (question : Question)
+      → AsksFor zones run question ↔ Contains questions question
+  pub one_end : (zones : Answering) (run : Run) (o p : Outcome) (c d : Counts) → EndsWith zones run o c
+      → EndsWith zones run p d → (o ≡ p) × (c ≡ d)
 
 -- the measure of the recursion: where the depth is more than the lookups that are left, more depth changes nothing
 abbrev pub DepthSuffices : Type 0
-DepthSuffices = (zones : Answering) (limits : Limits) (a : Address) (depth : ℕ) (domain : List ℕ) (name : Labels) (counts : Counts)
+DepthSuffices = (zones : Answering) (limits : Limits) (a : Address) (depth : ℕ) (domain : List ℕ) (name : Labels)
+    (counts : Counts)
     (outcome : Outcome) (after : Counts) → counts.lookups ≤ limits.lookups → limits.lookups < depth + counts.lookups
     → EndsWith zones (check limits a depth domain name counts) outcome after
     ↔ EndsWith zones (check limits a (suc depth) domain name counts) outcome after
 
--- RFC 7208, section 6.1: a chain of at most one record more than the limit on lookups gives every address the verdict of the first of
--- all its terms that has it
+-- RFC 7208, section 6.1: a chain of at most one record more than the limit on lookups gives every address the verdict
+-- of the first of all its terms that has it
 abbrev pub ChainsGiveFirst : Type 0
-ChainsGiveFirst = (zones : Answering) (limits : Limits) (a : Address) (domain : List ℕ) (name : Labels) (lists : List (List FlatTerm))
+ChainsGiveFirst = (zones : Answering) (limits : Limits) (a : Address) (domain : List ℕ) (name : Labels)
+    (lists : List (List FlatTerm))
     → IsChain zones domain name lists → length lists ≤ suc limits.lookups → GivesFlat zones limits a domain name lists

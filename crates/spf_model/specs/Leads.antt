@@ -1,5 +1,5 @@
--- What the parts of an evaluation say of the run that they are a part of (the project's own form), and what a record has whose terms
--- can be judged. A part is what comes after it, led to a run.
+-- What the parts of an evaluation say of the run that they are a part of (the project's own form), and what a record
+-- has whose terms can be judged. A part is what comes after it, led to a run.
 use Rattle.std.specs.Prelude.{ℕ, ◌≤◌, IsTrue, List, [], ◌∷◌, Option, Some, None, Result, Ok, Err, MatchResult, MatchOption}
 use Rattle.std.specs.List.{list_all}
 use Rattle.spf_macros.specs.declared.piece.Piece.{Piece}
@@ -26,7 +26,8 @@ site_of frame = record { limits = frame.limits; address = frame.address; domain 
 
 -- the run ends as the other does
 abbrev pub LeadsTo : Answering → Run → Run → Type 0
-LeadsTo zones run rest = (outcome : Outcome) (after : Counts) → EndsWith zones rest outcome after → EndsWith zones run outcome after
+LeadsTo zones run rest = (outcome : Outcome) (after : Counts) → EndsWith zones rest outcome after
+    → EndsWith zones run outcome after
 
 -- the run ends with this outcome
 abbrev pub EndsSo : Answering → Run → Outcome → Type 0
@@ -64,7 +65,8 @@ IsJudged {A} zones part counts result =
 
 -- a run that ends with a verdict and these counts, or otherwise
 abbrev pub IsVerdictOf : Answering → Run → Counts → Result Verdict Halt → Type 0
-IsVerdictOf zones run counts result = MatchResult result (λ verdict. EndsWith zones run (Is verdict) counts) (Halts zones (λ (u : Unit {0}). run))
+IsVerdictOf zones run counts result = MatchResult result (λ verdict. EndsWith zones run (Is verdict) counts)
+    (Halts zones (λ (u : Unit {0}). run))
 
 -- RFC 7208, sections 5.2 and 6.1: that the record which a term asks for does not exist is an error of the term
 abbrev pub required : Place → Outcome → Outcome
@@ -87,7 +89,8 @@ required_of site t (Err halt) = Err (required_halt site t halt)
 -- a part that ends with the verdict of a directive, or hands the counts on
 abbrev pub IsTried : Answering → ((Counts → Run) → Run) → Counts → Result (Option Verdict) Halt → Type 0
 IsTried zones part counts result =
-    MatchResult result (λ found. MatchOption found (HandsOn zones part counts) (λ verdict. (go : Counts → Run) → EndsWith zones (part go) (Is verdict) counts))
+    MatchResult result (λ found. MatchOption found (HandsOn zones part counts)
+    (λ verdict. (go : Counts → Run) → EndsWith zones (part go) (Is verdict) counts))
     (Halts zones part)
 
 -- ---- terms that can be judged

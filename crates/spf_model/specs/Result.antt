@@ -25,7 +25,8 @@ pub record AreModest (limits : Limits) : Type 0 where
 -- RFC 7208, section 4: check_host gives an address this outcome
 abbrev pub Gives : Answering → Limits → List ℕ → Address → Outcome → Type 0
 Gives zones limits domain a outcome =
-    (name : Labels) × (counts : Counts) × (name_of domain ≡ Some name) × EndsWith zones (check_host limits a domain name) outcome counts
+    (name : Labels) × (counts : Counts) × (name_of domain ≡ Some name)
+    × EndsWith zones (check_host limits a domain name) outcome counts
 
 -- RFC 7208, section 4: check_host asks this question for an address
 abbrev pub AskedFor : Answering → Limits → List ℕ → Address → Question → Type 0

@@ -58,8 +58,10 @@ impl Frame<'_> {
         counts: &mut Counts,
     ) -> Result<Verdict, Halt>
         requires { TargetFits (Some spec.now) }
-        ensures judged { (depth : ℕ) → self.now.limits.lookups ≤ depth + counts.old.lookups → IsJudged (says self.now.zones.now)
-            (judging.with_verdict (site_of self.now) (checking.check self.now.limits self.now.address depth) term spec.now counts.old) counts.new result }
+        ensures judged { (depth : ℕ) → self.now.limits.lookups ≤ depth + counts.old.lookups
+            → IsJudged (says self.now.zones.now)
+            (judging.with_verdict (site_of self.now)
+            (checking.check self.now.limits self.now.address depth) term spec.now counts.old) counts.new result }
         ensures grows { counts.old.lookups ≤ counts.new.lookups }
     {
         let (domain, name) = self.find_domain(term, spec, counts)?;
@@ -78,7 +80,8 @@ impl Frame<'_> {
     #[cycle(check_host)]
     fn matches(&self, term: u32, mechanism: &Mechanism, counts: &mut Counts) -> Result<bool, Halt>
         requires { MechanismFits mechanism.now }
-        ensures judged { (depth : ℕ) → self.now.limits.lookups ≤ depth + counts.old.lookups → IsJudged (says self.now.zones.now)
+        ensures judged { (depth : ℕ) → self.now.limits.lookups ≤ depth + counts.old.lookups
+            → IsJudged (says self.now.zones.now)
             (judging.judge (site_of self.now) (checking.check self.now.limits self.now.address depth) term mechanism.now counts.old) counts.new result }
         ensures grows { counts.old.lookups ≤ counts.new.lookups }
     {
@@ -118,8 +121,10 @@ impl Frame<'_> {
         counts: &mut Counts,
     ) -> Result<Option<Verdict>, Halt>
         requires { TermFits term.now }
-        ensures tried { (depth : ℕ) → self.now.limits.lookups ≤ depth + counts.old.lookups → IsTried (says self.now.zones.now)
-            (checking.trying (judging.judge (site_of self.now) (checking.check self.now.limits self.now.address depth)) number term.now counts.old) counts.new result }
+        ensures tried { (depth : ℕ) → self.now.limits.lookups ≤ depth + counts.old.lookups
+            → IsTried (says self.now.zones.now)
+            (checking.trying (judging.judge (site_of self.now)
+            (checking.check self.now.limits self.now.address depth)) number term.now counts.old) counts.new result }
         ensures grows { counts.old.lookups ≤ counts.new.lookups }
     {
         let Term::Directive(verdict, mechanism) = term else {
@@ -136,8 +141,10 @@ impl Frame<'_> {
     #[cycle(check_host)]
     fn try_terms(&self, terms: &[Term], counts: &mut Counts) -> Result<Option<Verdict>, Halt>
         requires { TermsFit terms.now }
-        ensures tried { (depth : ℕ) → self.now.limits.lookups ≤ depth + counts.old.lookups → IsTried (says self.now.zones.now)
-            (checking.tried (judging.judge (site_of self.now) (checking.check self.now.limits self.now.address depth)) 1 terms.now counts.old) counts.new result }
+        ensures tried { (depth : ℕ) → self.now.limits.lookups ≤ depth + counts.old.lookups
+            → IsTried (says self.now.zones.now)
+            (checking.tried (judging.judge (site_of self.now)
+            (checking.check self.now.limits self.now.address depth)) 1 terms.now counts.old) counts.new result }
         ensures grows { counts.old.lookups ≤ counts.new.lookups }
     {
         let mut number = 1u32;
@@ -154,7 +161,8 @@ impl Frame<'_> {
     #[cycle(check_host)]
     pub(crate) fn judge_record(&self, counts: &mut Counts) -> Result<Verdict, Halt>
         requires { counts.old.lookups ≤ self.now.limits.lookups }
-        ensures judged { (depth : ℕ) → self.now.limits.lookups < depth + counts.old.lookups → IsVerdictOf (says self.now.zones.now)
+        ensures judged { (depth : ℕ) → self.now.limits.lookups < depth + counts.old.lookups
+            → IsVerdictOf (says self.now.zones.now)
             (checking.check self.now.limits self.now.address depth self.now.domain.now self.now.name.now counts.old) counts.new result }
         ensures grows { counts.old.lookups ≤ counts.new.lookups }
     {
@@ -169,9 +177,9 @@ impl Frame<'_> {
     }
 }
 
-/// The outcome of check_host (RFC 7208, section 4) for one address, over the lent zones. An address of IPv6 that maps one
-/// of IPv4 stays of IPv6. The domain must be a legal name, and each limit at most 1,000, since records are nested as deep
-/// as the limit on lookups. `AllocError` where there is no memory.
+/// The outcome of check_host (RFC 7208, section 4) for one address, over the lent zones. An address of IPv6 that maps
+/// one of IPv4 stays of IPv6. The domain must be a legal name, and each limit at most 1,000, since records are nested
+/// as deep as the limit on lookups. `AllocError` where there is no memory.
 pub fn check_one(
     alloc: Global,
     zones: &Zones,

@@ -90,8 +90,10 @@ impl Frame<'_> {
 
     /// Counts a term that asks the DNS (RFC 7208, section 4.6.4).
     pub(crate) fn count_lookup(&self, term: u32, counts: &mut Counts) -> Result<(), Halt>
-        ensures counted { Leads (says self.now.zones.now) (judging.counted (site_of self.now) term counts.old) counts.new result }
-        ensures risen { OnOk result ((counts.new.lookups ≡ counts.old.lookups + 1) × (counts.new.lookups ≤ self.now.limits.lookups)) }
+        ensures counted { Leads (says self.now.zones.now)
+            (judging.counted (site_of self.now) term counts.old) counts.new result }
+        ensures risen { OnOk result ((counts.new.lookups ≡ counts.old.lookups + 1)
+            × (counts.new.lookups ≤ self.now.limits.lookups)) }
         ensures grows { counts.old.lookups ≤ counts.new.lookups }
     {
         if counts.lookups >= self.limits.lookups {
@@ -103,7 +105,8 @@ impl Frame<'_> {
 
     /// Counts a term that got a void answer (RFC 7208, section 4.6.4).
     pub(crate) fn count_void(&self, term: u32, void: bool, counts: &mut Counts) -> Result<(), Halt>
-        ensures counted { Leads (says self.now.zones.now) (judging.void_counted (site_of self.now) term void counts.old) counts.new result }
+        ensures counted { Leads (says self.now.zones.now)
+            (judging.void_counted (site_of self.now) term void counts.old) counts.new result }
         ensures same { counts.new.lookups ≡ counts.old.lookups }
     {
         if !void {
@@ -116,10 +119,12 @@ impl Frame<'_> {
         Ok(())
     }
 
-    /// The target text of a term (RFC 7208, section 4.8): what its domain-spec asks for, or the domain where it has none.
+    /// The target text of a term (RFC 7208, section 4.8): what its domain-spec asks for, or the domain where it has
+    /// none.
     pub(crate) fn target(&self, term: u32, spec: Option<&MacroText>) -> Result<Bytes, Halt>
         requires { TargetFits (option_map (λ s. s.now) spec) }
-        ensures { (counts : CountsSoFar) → IsSettled (says self.now.zones.now) (judging.with_target (site_of self.now) term counts (option_map (λ s. s.now) spec.entry)) result }
+        ensures { (counts : CountsSoFar) → IsSettled (says self.now.zones.now)
+            (judging.with_target (site_of self.now) term counts (option_map (λ s. s.now) spec.entry)) result }
     {
         let Some(spec) = spec else {
             let mut domain = Bytes::new(self.alloc);
@@ -135,7 +140,8 @@ impl Frame<'_> {
     /// The name of hosts that a term asks for (RFC 7208, section 4.8). Where the text is none, the term is left open.
     pub(crate) fn host_name(&self, term: u32, text: &[u8]) -> Result<Name, Halt>
         ensures { (counts : CountsSoFar) → IsSettled (says self.now.zones.now)
-            (judging.with_name (outcome.Unsettled cause.Target (judging.at (site_of self.now) term)) counts (judging.name_of text.now)) result }
+            (judging.with_name (outcome.Unsettled cause.Target (judging.at (site_of self.now) term)) counts
+            (judging.name_of text.now)) result }
     {
         let Some(name) = name_of(text) else {
             return Err(self.open(Cause::Target, term));
@@ -146,7 +152,8 @@ impl Frame<'_> {
     /// The domain whose record a term asks for (RFC 7208, section 5.2). Where the text is none, that is an error.
     pub(crate) fn domain_name(&self, term: u32, text: &[u8]) -> Result<Name, Halt>
         ensures { (counts : CountsSoFar) → IsSettled (says self.now.zones.now)
-            (judging.with_name (outcome.Perm cause.Missing (judging.at (site_of self.now) term)) counts (judging.name_of text.now)) result }
+            (judging.with_name (outcome.Perm cause.Missing (judging.at (site_of self.now) term)) counts
+            (judging.name_of text.now)) result }
     {
         let Some(name) = name_of(text) else {
             return Err(self.error(Cause::Missing, term));
@@ -162,7 +169,9 @@ impl Frame<'_> {
         counts: &mut Counts,
     ) -> Result<Name, Halt>
         requires { TargetFits (option_map (λ s. s.now) spec) }
-        ensures found { IsJudged (says self.now.zones.now) (judging.with_host (site_of self.now) term (option_map (λ s. s.now) spec.entry) counts.old) counts.new result }
+        ensures found { IsJudged (says self.now.zones.now)
+            (judging.with_host (site_of self.now) term
+            (option_map (λ s. s.now) spec.entry) counts.old) counts.new result }
         ensures grows { counts.old.lookups ≤ counts.new.lookups }
     {
         self.count_lookup(term, counts)?;
@@ -182,7 +191,8 @@ impl Frame<'_> {
             (λ r. (go : List ℕ → List (List ℕ) → CountsSoFar → Run) → LeadsTo (says self.now.zones.now)
             (judging.with_domain (site_of self.now) term spec.now counts.old go) (go r.0 r.1 counts.new))
             (Halts (says self.now.zones.now) (judging.with_domain (site_of self.now) term spec.now counts.old)) }
-        ensures risen { OnOk result ((counts.new.lookups ≡ counts.old.lookups + 1) × (counts.new.lookups ≤ self.now.limits.lookups)) }
+        ensures risen { OnOk result ((counts.new.lookups ≡ counts.old.lookups + 1)
+            × (counts.new.lookups ≤ self.now.limits.lookups)) }
         ensures grows { counts.old.lookups ≤ counts.new.lookups }
     {
         self.count_lookup(term, counts)?;
@@ -199,7 +209,8 @@ impl Frame<'_> {
         self.zones.answer(name, kind)
     }
 
-    /// The answer to a term's question. One that lies outside leaves the term open, and one that goes round is an error.
+    /// The answer to a term's question. One that lies outside leaves the term open, and one that goes round is an
+    /// error.
     pub(crate) fn ask(&self, term: u32, name: &Name, kind: QKind) -> Result<Answer, Halt>
         ensures { (counts : CountsSoFar) → IsSettled (says self.now.zones.now)
             (judging.ask (site_of self.now) term counts (record { name = name.now; kind = kind })) result }

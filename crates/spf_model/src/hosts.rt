@@ -88,8 +88,8 @@ fn exchange_of(body: &Body) -> Option<&Name>
     }
 }
 
-/// The exchanges of MX records, in order (RFC 7208, section 5.4); a root exchange is skipped. `AllocError` where there is no
-/// memory.
+/// The exchanges of MX records, in order (RFC 7208, section 5.4); a root exchange is skipped. `AllocError` where there
+/// is no memory.
 pub fn exchanges_of(alloc: Global, bodies: &[Body]) -> Result<Vec<&Name>, AllocError>
     ensures { IfOk result (λ exchanges. map (λ name. name.now) exchanges.items ≡ filter_map judging.exchange_of bodies.now) }
 {
@@ -115,7 +115,8 @@ impl Frame<'_> {
         requires len4 { lens.len4 ≤ 32 }
         requires len6 { lens.len6 ≤ 128 }
         ensures judged { IsJudged (says self.now.zones.now)
-            (judging.match_hosts (site_of self.now) term counts.old lens.len4 lens.len6 before (map (λ name. name.now) hosts.now)) counts.new result }
+            (judging.match_hosts (site_of self.now) term counts.old lens.len4 lens.len6 before
+            (map (λ name. name.now) hosts.now)) counts.new result }
         ensures same { counts.new.lookups ≡ counts.old.lookups }
     {
         let mut void = before;
@@ -163,7 +164,8 @@ impl Frame<'_> {
         requires len4 { lens.len4 ≤ 32 }
         requires len6 { lens.len6 ≤ 128 }
         ensures judged { (sub : judging.Sub) → IsJudged (says self.now.zones.now)
-            (judging.judge (site_of self.now) sub term (mechanism.A (option_map (λ s. s.now) spec.entry) lens.len4 lens.len6) counts.old) counts.new result }
+            (judging.judge (site_of self.now) sub term
+            (mechanism.A (option_map (λ s. s.now) spec.entry) lens.len4 lens.len6) counts.old) counts.new result }
         ensures grows { counts.old.lookups ≤ counts.new.lookups }
     {
         let name = self.find_host(term, spec, counts)?;
@@ -182,7 +184,8 @@ impl Frame<'_> {
         requires len4 { lens.len4 ≤ 32 }
         requires len6 { lens.len6 ≤ 128 }
         ensures judged { (sub : judging.Sub) → IsJudged (says self.now.zones.now)
-            (judging.judge (site_of self.now) sub term (mechanism.Mx (option_map (λ s. s.now) spec.entry) lens.len4 lens.len6) counts.old) counts.new result }
+            (judging.judge (site_of self.now) sub term
+            (mechanism.Mx (option_map (λ s. s.now) spec.entry) lens.len4 lens.len6) counts.old) counts.new result }
         ensures grows { counts.old.lookups ≤ counts.new.lookups }
     {
         let name = self.find_host(term, spec, counts)?;

@@ -84,8 +84,8 @@ pub fn write_outcome(alloc: Global, outcome: &Outcome) -> Result<Bytes, AllocErr
     Ok(words)
 }
 
-/// Why an outcome is no verdict, and where: the cause, the printed name of the record, and the number of the term, as in
-/// `lookups example.com 7`. Of a verdict there is nothing. `AllocError` where there is no memory.
+/// Why an outcome is no verdict, and where: the cause, the printed name of the record, and the number of the term, as
+/// in `lookups example.com 7`. Of a verdict there is nothing. `AllocError` where there is no memory.
 pub fn write_cause(alloc: Global, outcome: &Outcome) -> Result<Bytes, AllocError>
     ensures { IfOk result (λ words. words ≡ cause_text outcome.now) }
 {

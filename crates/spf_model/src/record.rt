@@ -57,7 +57,8 @@ pub fn spf_texts(alloc: Global, bodies: &[Body]) -> Result<Text, AllocError>
 impl Frame<'_> {
     /// The terms of a record (RFC 7208, section 4.6).
     fn read_record(&self, text: &[u8]) -> Result<Terms, Halt>
-        ensures read { (counts : CountsSoFar) → IsSettled (says self.now.zones.now) (check.with_texts self.now.name.now counts (text.now ∷ [])) result }
+        ensures read { (counts : CountsSoFar) → IsSettled (says self.now.zones.now)
+            (check.with_texts self.now.name.now counts (text.now ∷ [])) result }
         ensures fit { IfOk result TermsFit }
     {
         match parse(self.alloc, text)? {
@@ -82,7 +83,8 @@ impl Frame<'_> {
 
     /// The terms of the record at the domain, which has two or more labels (RFC 7208, sections 4.3 to 4.6).
     pub(crate) fn find_record(&self) -> Result<Terms, Halt>
-        ensures found { (counts : CountsSoFar) → IsSettled (says self.now.zones.now) (check.with_record self.now.name.now counts) result }
+        ensures found { (counts : CountsSoFar) → IsSettled (says self.now.zones.now)
+            (check.with_record self.now.name.now counts) result }
         ensures fit { IfOk result TermsFit }
     {
         if self.name.label_count() < 2 {

@@ -7,8 +7,8 @@ use std::alloc::{AllocError, Global};
 use std::test::Fail;
 use zone_answers::are_lendable;
 
-// A file, and its entries: each with its line, `+` where it begins with a blank, and its tokens behind `'` or `"`, where
-// a `\` stands before an escaped octet.
+// A file, and its entries: each with its line, `+` where it begins with a blank, and its tokens behind `'` or `"`,
+// where a `\` stands before an escaped octet.
 const ENTRIES: [(&str, &str); 6] = [
     ("a TXT \"x\"; c", "1'a'TXT\"x\n"),
     ("\tTXT ( x ;c\r\n y)\\.z", "1+'TXT'x'y'\\.z\n"),

@@ -19,8 +19,11 @@ abbrev pub AskedBySome : (bits : ℕ) → Answering → (ℕ → Run) → Questi
 AskedBySome bits zones run question = (a : ℕ) × (a < 2 ^ bits) × AsksFor zones (run a) question
 
 -- at each address stands how its run ends, and to the questions are added those that the runs ask
-pub record AreEndsOf (bits : ℕ) (zones : Answering) (run : ℕ → Run) (ends : List (Cidr × Outcome)) (asked more : List Question) : Type 0 where
-  pub each : (a : ℕ) → a < 2 ^ bits → IsSomeAnd (value_at bits ends a) (λ outcome. (counts : Counts) × EndsWith zones (run a) outcome counts)
+pub record AreEndsOf (bits : ℕ) (zones : Answering) (run : ℕ → Run) (ends : List (Cidr × Outcome))
+    (asked more : List Question) : Type 0 where
+  pub each : (a : ℕ) → a < 2 ^ bits → IsSomeAnd (value_at bits ends a)
+      (λ outcome. (counts : Counts) × EndsWith zones (run a) outcome counts)
   pub kept : (question : Question) → Contains asked question → Contains more question
-  pub only : (question : Question) → Contains more question → Contains asked question ⊎ AskedBySome bits zones run question
+  pub only : (question : Question) → Contains more question → Contains asked question
+      ⊎ AskedBySome bits zones run question
   pub covers : (question : Question) → AskedBySome bits zones run question → Contains more question

@@ -28,7 +28,8 @@ abbrev pub gather_exchanges : Site → ℕ → Answer → Counts → (Found → 
 gather_exchanges site t found counts go =
     let exchanges = filter_map exchange_of (answer_bodies found) in
     go_if (nat_le (length exchanges) site.limits.exchanges) (Perm cause.Exchanges (at site t)) counts
-    (λ counts. ask_all site t counts (map (address_question site.address) exchanges) (λ answers. go (is_void found, answers)))
+    (λ counts. ask_all site t counts (map (address_question site.address) exchanges)
+    (λ answers. go (is_void found, answers)))
 
 -- RFC 7208, section 5.4: the answers of `mx`
 abbrev pub gather_mx : Site → ℕ → Option (List Piece) → Counts → (Found → Run) → Run
@@ -45,7 +46,8 @@ pub record IsGathered (gathered : Gathered) (found : Found) : Type 0 where
   pub void : gathered.void ≡ (found.0 || list_any is_void found.1)
   pub bodies : answer_bodies gathered.found ≡ flat_map answer_bodies found.1
 
--- RFC 7208, sections 4.6.4, 5.3 and 5.4: counts the void, and then the directive matches where one of the addresses agrees
+-- RFC 7208, sections 4.6.4, 5.3 and 5.4: counts the void, and then the directive matches where one of the addresses
+-- agrees
 abbrev pub judge_hosts : Site → ℕ → Verdict → ℕ → ℕ → Found → Stretch
 judge_hosts site t verdict len4 len6 found counts go =
     void_counted site t (found.0 || list_any is_void found.1) counts

@@ -9,6 +9,7 @@ use Rattle.symbolic_check.specs.Evaluation.{IsEvaluation}
 
 -- the questions of an evaluation decide it: other zones that answer them alike have it too
 abbrev pub RestsOnAsked : Type 0
-RestsOnAsked = (zones others : Answering) (limits : Limits) (domain : List ℕ) (four six : List (Cidr × Outcome)) (asked : List Question)
+RestsOnAsked = (zones others : Answering) (limits : Limits) (domain : List ℕ) (four six : List (Cidr × Outcome))
+    (asked : List Question)
     → ((question : Question) → Contains asked question → others question ≡ zones question)
     → IsEvaluation zones limits domain four six asked → IsEvaluation others limits domain four six asked

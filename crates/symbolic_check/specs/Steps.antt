@@ -49,7 +49,8 @@ after_failure outcome (Live counts) = Failed outcome
 after_failure outcome (Decided verdict counts) = Decided verdict counts
 after_failure outcome (Failed other) = Failed other
 
--- RFC 7208, section 5.2: a record that is asked for is evaluated for the addresses that are live; the others stand there alike
+-- RFC 7208, section 5.2: a record that is asked for is evaluated for the addresses that are live; the others stand
+-- there alike
 abbrev pub entered : State → State
 entered (Live counts) = Live counts
 entered (Decided verdict counts) = Decided Neutral (record { lookups = 0; voids = 0 })

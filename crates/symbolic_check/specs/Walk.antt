@@ -14,20 +14,24 @@ use Rattle.symbolic_check.specs.declared.state.State.TheVariants.{Live, Decided,
 
 -- what is left of a run: it ends as the run does, it asks nothing else, and what the run asks before it was asked
 pub record Follows (zones : Answering) (asked : List Question) (run rest : Run) : Type 0 where
-  pub ends : (outcome : Outcome) (counts : Counts) → EndsWith zones rest outcome counts ↔ EndsWith zones run outcome counts
+  pub ends : (outcome : Outcome) (counts : Counts)
+      → EndsWith zones rest outcome counts ↔ EndsWith zones run outcome counts
   pub asks : (question : Question) → AsksFor zones rest question → AsksFor zones run question
-  pub covers : (question : Question) → AsksFor zones run question → Contains asked question ⊎ AsksFor zones rest question
+  pub covers : (question : Question) → AsksFor zones run question → Contains asked question
+      ⊎ AsksFor zones rest question
 
 -- a part of an evaluation, which is what comes after it led to a run
 abbrev pub Part : Type 0
 Part = (Counts → Run) → Run
 
--- what a part of an evaluation leaves, with the counts at its begin: it goes on with the counts, or has come to a verdict, or has
--- failed, whatever comes after it
+-- what a part of an evaluation leaves, with the counts at its begin: it goes on with the counts, or has come to a
+-- verdict, or has failed, whatever comes after it
 abbrev pub Leaves : Answering → List Question → Part → State → Type 0
 Leaves zones asked part (Live counts) = (go : Counts → Run) → Follows zones asked (part go) (go counts)
-Leaves zones asked part (Decided verdict counts) = (go : Counts → Run) → Follows zones asked (part go) (Ends (Is verdict) counts)
-Leaves zones asked part (Failed outcome) = NoVerdict outcome × ((go : Counts → Run) → (counts : Counts) × Follows zones asked (part go) (Ends outcome counts))
+Leaves zones asked part (Decided verdict counts) = (go : Counts → Run)
+    → Follows zones asked (part go) (Ends (Is verdict) counts)
+Leaves zones asked part (Failed outcome) = NoVerdict outcome
+    × ((go : Counts → Run) → (counts : Counts) × Follows zones asked (part go) (Ends outcome counts))
 
 -- a part of an evaluation, by the counts at its begin
 abbrev pub Stretch : Type 0
@@ -40,18 +44,23 @@ Moves zones asked stretch (Decided verdict counts) new = new ≡ Decided verdict
 Moves zones asked stretch (Failed outcome) new = new ≡ Failed outcome
 
 -- the question is asked in the stretch by an address that is live at its begin
-pub record AskedBy (bits : ℕ) (zones : Answering) (stretch : ℕ → Stretch) (old : List (Cidr × State)) (question : Question) : Type 0 where
+pub record AskedBy (bits : ℕ) (zones : Answering) (stretch : ℕ → Stretch) (old : List (Cidr × State))
+    (question : Question) : Type 0 where
   pub address : ℕ
   pub counts : Counts
   pub within : address < 2 ^ bits
   pub live : value_at bits old address ≡ Some (Live counts)
   pub asks : (go : Counts → Run) → AsksFor zones (stretch address counts go) question
 
--- a walk over a stretch for every address of a family: what stands at each address after it, and the questions that it adds
-pub record Walks (bits : ℕ) (zones : Answering) (stretch : ℕ → Stretch) (old new : List (Cidr × State)) (asked more : List Question) : Type 0 where
-  pub each : (a : ℕ) → a < 2 ^ bits → IsSomeAnd (value_at bits old a) (λ state. IsSomeAnd (value_at bits new a) (Moves zones more (stretch a) state))
+-- a walk over a stretch for every address of a family: what stands at each address after it, and the questions that it
+-- adds
+pub record Walks (bits : ℕ) (zones : Answering) (stretch : ℕ → Stretch) (old new : List (Cidr × State))
+    (asked more : List Question) : Type 0 where
+  pub each : (a : ℕ) → a < 2 ^ bits → IsSomeAnd (value_at bits old a)
+      (λ state. IsSomeAnd (value_at bits new a) (Moves zones more (stretch a) state))
   pub kept : (question : Question) → Contains asked question → Contains more question
-  pub only : (question : Question) → Contains more question → Contains asked question ⊎ AskedBy bits zones stretch old question
+  pub only : (question : Question) → Contains more question → Contains asked question
+      ⊎ AskedBy bits zones stretch old question
 
 -- some address is live
 abbrev pub SomeLive : (bits : ℕ) → List (Cidr × State) → Type 0
@@ -67,9 +76,12 @@ then_stretch first next counts go = first counts (λ between. next between go)
 
 -- a step that makes something of what stands at each address
 abbrev pub StepsAt : (bits : ℕ) → (ℕ → State → State) → List (Cidr × State) → List (Cidr × State) → Type 0
-StepsAt bits step old new = (a : ℕ) → a < 2 ^ bits → IsSomeAnd (value_at bits old a) (λ state. value_at bits new a ≡ Some (step a state))
+StepsAt bits step old new = (a : ℕ) → a < 2 ^ bits
+    → IsSomeAnd (value_at bits old a) (λ state. value_at bits new a ≡ Some (step a state))
 
 -- a step that also takes what another trie has at each address
-abbrev pub StepsWith : {U : Type 0} → (bits : ℕ) → (U → State → State) → List (Cidr × U) → List (Cidr × State) → List (Cidr × State) → Type 0
+abbrev pub StepsWith : {U : Type 0} → (bits : ℕ) → (U → State → State) → List (Cidr × U) → List (Cidr × State)
+    → List (Cidr × State) → Type 0
 StepsWith bits step with old new =
-    (a : ℕ) → a < 2 ^ bits → IsSomeAnd (value_at bits old a) (λ state. IsSomeAnd (value_at bits with a) (λ u. value_at bits new a ≡ Some (step u state)))
+    (a : ℕ) → a < 2 ^ bits → IsSomeAnd (value_at bits old a)
+    (λ state. IsSomeAnd (value_at bits with a) (λ u. value_at bits new a ≡ Some (step u state)))

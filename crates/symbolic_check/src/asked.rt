@@ -46,7 +46,8 @@ fn key_of(alloc: Global, question: &Question) -> Result<Key, AllocError>
 /// The questions by their keys.
 fn by_key(alloc: Global, asked: Questions) -> Result<BTreeMap<Key, Question>, AllocError>
     ensures order { IfOk result (λ found. IsInOrder (values_of found.entries)) }
-    ensures same { IfOk result (λ found. (question : Asked) → Contains (values_of found.entries) question ↔ Contains asked question) }
+    ensures same { IfOk result (λ found. (question : Asked)
+        → Contains (values_of found.entries) question ↔ Contains asked question) }
 {
     let mut found = BTreeMap::new(alloc);
     for question in asked.into_vec() {
@@ -70,7 +71,8 @@ fn in_turn(alloc: Global, mut found: BTreeMap<Key, Question>) -> Result<Question
 /// The questions, each once, by the bytes of the printed name and then by A, AAAA, MX, TXT.
 pub(crate) fn in_order(alloc: Global, asked: Questions) -> Result<Questions, AllocError>
     ensures order { IfOk result IsInOrder }
-    ensures same { IfOk result (λ questions. (question : Asked) → Contains questions question ↔ Contains asked question) }
+    ensures same { IfOk result (λ questions. (question : Asked)
+        → Contains questions question ↔ Contains asked question) }
 {
     let found = by_key(alloc, asked)?;
     in_turn(alloc, found)

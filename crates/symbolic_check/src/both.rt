@@ -25,8 +25,8 @@ pub struct Both {
     pub v4: TrieMap<u32, Ending>,
     /// The outcome at each IPv6 address.
     pub v6: TrieMap<u128, Ending>,
-    /// Each question that the evaluation of some address asks, once, by the bytes of the printed name and then by A, AAAA, MX,
-    /// TXT.
+    /// Each question that the evaluation of some address asks, once, by the bytes of the printed name and then by A,
+    /// AAAA, MX, TXT.
     pub asked: Questions,
 }
 
@@ -37,7 +37,8 @@ impl Scene<'_> {
         asked: &mut Questions,
     ) -> Result<TrieMap<W, Ending>, AllocError>
         requires { AreModest self.now.limits }
-        ensures { IfOk result (λ ends. AreEndsOf W.BITS (says self.now.zones.now) (run_at (address_of W.family) self.now) ends asked.old asked.new) }
+        ensures { IfOk result (λ ends. AreEndsOf W.BITS (says self.now.zones.now)
+            (run_at (address_of W.family) self.now) ends asked.old asked.new) }
     {
         let counts = Counts {
             lookups: 0,
@@ -50,8 +51,8 @@ impl Scene<'_> {
 }
 
 /// The outcome of check_host (RFC 7208, section 4) for every address of both families, over the lent zones, and the
-/// questions that these evaluations ask. The domain must be a legal name, and each limit at most 1,000, since records are
-/// nested as deep as the limit on lookups. `AllocError` where there is no memory.
+/// questions that these evaluations ask. The domain must be a legal name, and each limit at most 1,000, since records
+/// are nested as deep as the limit on lookups. `AllocError` where there is no memory.
 pub fn evaluate(
     alloc: Global,
     zones: &Zones,

@@ -48,7 +48,8 @@ impl Scene<'_> {
     ) -> Result<Gathered, Halt>
         ensures { SettlesBy IsGathered (says self.now.zones.now)
             (λ a counts go. judging.ask_all (site_at self.now (address_of W.family a)) term counts
-            (map (judging.address_question (address_of W.family a)) (map (λ name. name.now) hosts.now)) (λ answers. go (before, answers))) asked.old asked.new result }
+            (map (judging.address_question (address_of W.family a)) (map (λ name. name.now) hosts.now))
+            (λ answers. go (before, answers))) asked.old asked.new result }
     {
         let kind = QKind::of_addresses(W::family());
         let mut void = before;
@@ -62,7 +63,8 @@ impl Scene<'_> {
         Ok(Gathered { void, found })
     }
 
-    /// What the exchanges that were found have, of which there may not be more than the limit (RFC 7208, section 4.6.4).
+    /// What the exchanges that were found have, of which there may not be more than the limit (RFC 7208, section
+    /// 4.6.4).
     fn gather_exchanges<W: NetworkFamily>(
         &self,
         term: u32,
@@ -70,7 +72,8 @@ impl Scene<'_> {
         asked: &mut Questions,
     ) -> Result<Gathered, Halt>
         ensures { SettlesBy IsGathered (says self.now.zones.now)
-            (λ a counts. gather_exchanges (site_at self.now (address_of W.family a)) term found.now counts) asked.old asked.new result }
+            (λ a counts. gather_exchanges (site_at self.now
+            (address_of W.family a)) term found.now counts) asked.old asked.new result }
     {
         let exchanges = exchanges_of(self.alloc, found.bodies())?;
         let hosts = exchanges.as_slice();
@@ -89,7 +92,8 @@ impl Scene<'_> {
     ) -> Result<Gathered, Halt>
         requires { TargetFits (option_map (λ s. s.now) spec) }
         ensures { SettlesBy IsGathered (says self.now.zones.now)
-            (λ a counts. gather_a (site_at self.now (address_of W.family a)) term (option_map (λ s. s.now) spec.entry) counts) asked.old asked.new result }
+            (λ a counts. gather_a (site_at self.now (address_of W.family a)) term
+            (option_map (λ s. s.now) spec.entry) counts) asked.old asked.new result }
     {
         let name = self.host_name::<W>(term, spec)?;
         self.gather_hosts::<W>(term, false, &[&name], asked)
@@ -104,7 +108,8 @@ impl Scene<'_> {
     ) -> Result<Gathered, Halt>
         requires { TargetFits (option_map (λ s. s.now) spec) }
         ensures { SettlesBy IsGathered (says self.now.zones.now)
-            (λ a counts. gather_mx (site_at self.now (address_of W.family a)) term (option_map (λ s. s.now) spec.entry) counts) asked.old asked.new result }
+            (λ a counts. gather_mx (site_at self.now (address_of W.family a)) term
+            (option_map (λ s. s.now) spec.entry) counts) asked.old asked.new result }
     {
         let name = self.host_name::<W>(term, spec)?;
         let found = self.ask::<W>(term, &name, QKind::Mx, asked)?;
@@ -120,7 +125,8 @@ impl Scene<'_> {
     ) -> Result<Answer, Halt>
         requires { TargetFits (Some spec.now) }
         ensures { Settles (says self.now.zones.now)
-            (λ a counts. gather_exists (site_at self.now (address_of W.family a)) term spec.now counts) asked.old asked.new result }
+            (λ a counts. gather_exists (site_at self.now
+            (address_of W.family a)) term spec.now counts) asked.old asked.new result }
     {
         let name = self.host_name::<W>(term, Some(spec))?;
         self.ask::<W>(term, &name, QKind::A, asked)

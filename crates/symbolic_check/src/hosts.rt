@@ -46,8 +46,8 @@ impl Scene<'_> {
         steps::count_lookups(self.alloc, states, self.limits, &self.place(term))
     }
 
-    /// What a term that gathered the addresses of hosts comes to: its void is counted, and then it matches where one of them
-    /// agrees (RFC 7208, sections 4.6.4, 5.3 and 5.4). Where gathering ended, the term ends with that.
+    /// What a term that gathered the addresses of hosts comes to: its void is counted, and then it matches where one of
+    /// them agrees (RFC 7208, sections 4.6.4, 5.3 and 5.4). Where gathering ended, the term ends with that.
     fn match_hosts<W: NetworkFamily>(
         &self,
         term: u32,
@@ -74,8 +74,8 @@ impl Scene<'_> {
         steps::match_set(self.alloc, &counted, verdict, &set)
     }
 
-    /// What `exists` comes to: its void is counted, and then it matches where something was found (RFC 7208, sections 4.6.4
-    /// and 5.7). Where gathering ended, the term ends with that.
+    /// What `exists` comes to: its void is counted, and then it matches where something was found (RFC 7208, sections
+    /// 4.6.4 and 5.7). Where gathering ended, the term ends with that.
     fn match_found<W: NetworkFamily>(
         &self,
         term: u32,
@@ -86,7 +86,8 @@ impl Scene<'_> {
         ensures { IfOk result (λ new. (part : PartOf Told) (asked more : List Asked)
             → Settles (says self.now.zones.now) part asked more found → SomeLive W.BITS states.now
             → Walks W.BITS (says self.now.zones.now)
-            (λ a counts go. part a counts (λ told. judge_found (site_at self.now (address_of W.family a)) term verdict told counts go)) states.now new asked more) }
+            (λ a counts go. part a counts (λ told. judge_found
+            (site_at self.now (address_of W.family a)) term verdict told counts go)) states.now new asked more) }
     {
         let found = match found {
             Ok(found) => found,
@@ -113,7 +114,9 @@ impl Scene<'_> {
         requires len4 { lens.len4 ≤ 32 }
         requires len6 { lens.len6 ≤ 128 }
         ensures { IfOk result (λ new. (depth : ℕ) → Walks W.BITS (says self.now.zones.now)
-            (term_stretch (address_of W.family) self.now depth term (Directive verdict (mechanism.A (option_map (λ s. s.now) spec.entry) lens.len4 lens.len6))) states new asked.old asked.new) }
+            (term_stretch (address_of W.family) self.now depth term
+            (Directive verdict (mechanism.A (option_map
+            (λ s. s.now) spec.entry) lens.len4 lens.len6))) states new asked.old asked.new) }
     {
         let counted = self.count_lookup(term, &states)?;
         if !steps::is_some_live(&counted) {
@@ -137,7 +140,9 @@ impl Scene<'_> {
         requires len4 { lens.len4 ≤ 32 }
         requires len6 { lens.len6 ≤ 128 }
         ensures { IfOk result (λ new. (depth : ℕ) → Walks W.BITS (says self.now.zones.now)
-            (term_stretch (address_of W.family) self.now depth term (Directive verdict (mechanism.Mx (option_map (λ s. s.now) spec.entry) lens.len4 lens.len6))) states new asked.old asked.new) }
+            (term_stretch (address_of W.family) self.now depth term
+            (Directive verdict (mechanism.Mx (option_map
+            (λ s. s.now) spec.entry) lens.len4 lens.len6))) states new asked.old asked.new) }
     {
         let counted = self.count_lookup(term, &states)?;
         if !steps::is_some_live(&counted) {
@@ -158,7 +163,8 @@ impl Scene<'_> {
     ) -> Result<States<W>, AllocError>
         requires { TargetFits (Some spec.now) }
         ensures { IfOk result (λ new. (depth : ℕ) → Walks W.BITS (says self.now.zones.now)
-            (term_stretch (address_of W.family) self.now depth term (Directive verdict (mechanism.Exists spec.now))) states new asked.old asked.new) }
+            (term_stretch (address_of W.family) self.now depth term
+            (Directive verdict (mechanism.Exists spec.now))) states new asked.old asked.new) }
     {
         let counted = self.count_lookup(term, &states)?;
         if !steps::is_some_live(&counted) {
@@ -174,8 +180,10 @@ impl Scene<'_> {
         term: u32,
         states: States<W>,
     ) -> Result<States<W>, AllocError>
-        ensures { IfOk result (λ new. (asked : List Asked) (depth : ℕ) (verdict : Given) (spec : Option (List Piece)) → Walks W.BITS (says self.now.zones.now)
-            (term_stretch (address_of W.family) self.now depth term (Directive verdict (mechanism.Ptr spec))) states new asked asked) }
+        ensures { IfOk result (λ new. (asked : List Asked) (depth : ℕ) (verdict : Given) (spec : Option (List Piece))
+            → Walks W.BITS (says self.now.zones.now)
+            (term_stretch (address_of W.family) self.now depth term
+            (Directive verdict (mechanism.Ptr spec))) states new asked asked) }
     {
         let counted = self.count_lookup(term, &states)?;
         let open = Outcome::Unsettled(Cause::Reverse, self.place(term));

@@ -23,7 +23,8 @@ fn set_network<W: Width>(
     verdict: Verdict,
 ) -> Result<(), AllocError>
     ensures { OnOk result ((a : ℕ) → a < 2 ^ W.BITS
-        → value_at W.BITS found.new a ≡ (if is_in W.BITS network a then Some (Some verdict) else value_at W.BITS found.old a)) }
+        → value_at W.BITS found.new a ≡ (if is_in W.BITS network a then Some
+        (Some verdict) else value_at W.BITS found.old a)) }
 {
     match network {
         Some(prefix) => found.set(prefix, Some(verdict)),
@@ -50,7 +51,8 @@ pub(crate) fn first_networks<W: NetworkFamily>(
     alloc: Global,
     terms: &[Term],
 ) -> Result<TrieMap<W, Option<Verdict>>, AllocError>
-    ensures { IfOk result (λ found. (a : ℕ) → a < 2 ^ W.BITS → value_at W.BITS found a ≡ Some (first_network terms.now (address_of W.family a))) }
+    ensures { IfOk result (λ found. (a : ℕ) → a < 2 ^ W.BITS
+        → value_at W.BITS found a ≡ Some (first_network terms.now (address_of W.family a))) }
 {
     let mut found = TrieMap::whole(alloc, None)?;
     for i in (0..terms.len()).rev() {

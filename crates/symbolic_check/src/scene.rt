@@ -1,5 +1,5 @@
-//! The record that is evaluated, and the parts of its terms that every address of a family has alike (RFC 7208, sections
-//! 4.6 and 4.8).
+//! The record that is evaluated, and the parts of its terms that every address of a family has alike (RFC 7208,
+//! sections 4.6 and 4.8).
 ghost use Rattle.addr_bits.specs.Address.{address_of};
 ghost use Rattle.std.specs.Prelude.{◌≡◌, ◌++◌, [], ◌∷◌, List, IfOk, OnOk, Some, option_map, filter_map};
 ghost use Rattle.spf_model.specs.Run.{says};
@@ -72,7 +72,8 @@ impl Scene<'_> {
         Halt::Ended(Outcome::Temp(Cause::Alias, self.place(term)))
     }
 
-    /// The target text of a term (RFC 7208, section 4.8): what its domain-spec asks for, or the domain where it has none.
+    /// The target text of a term (RFC 7208, section 4.8): what its domain-spec asks for, or the domain where it has
+    /// none.
     fn target_text<W: NetworkFamily>(
         &self,
         term: u32,
@@ -80,7 +81,8 @@ impl Scene<'_> {
     ) -> Result<Bytes, Halt>
         requires { TargetFits (option_map (λ s. s.now) spec) }
         ensures { (asked : List Asked) → Settles (says self.now.zones.now)
-            (λ a counts. judging.with_target (site_at self.now (address_of W.family a)) term counts (option_map (λ s. s.now) spec.entry)) asked asked result }
+            (λ a counts. judging.with_target (site_at self.now (address_of W.family a)) term counts
+            (option_map (λ s. s.now) spec.entry)) asked asked result }
     {
         let Some(spec) = spec else {
             let mut domain = Bytes::new(self.alloc);
@@ -101,7 +103,8 @@ impl Scene<'_> {
     ) -> Result<Name, Halt>
         requires { TargetFits (option_map (λ s. s.now) spec) }
         ensures { (asked : List Asked) → Settles (says self.now.zones.now)
-            (λ a counts. judging.naming (site_at self.now (address_of W.family a)) term (option_map (λ s. s.now) spec.entry) counts) asked asked result }
+            (λ a counts. judging.naming (site_at self.now (address_of W.family a)) term
+            (option_map (λ s. s.now) spec.entry) counts) asked asked result }
     {
         let text = self.target_text::<W>(term, spec)?;
         match name_of(text.as_slice()) {
@@ -110,8 +113,8 @@ impl Scene<'_> {
         }
     }
 
-    /// The domain whose record a term asks for, as a text and as a name, once its lookup is counted (RFC 7208, sections 5.2 and
-    /// 6.1). It asks nothing.
+    /// The domain whose record a term asks for, as a text and as a name, once its lookup is counted (RFC 7208, sections
+    /// 5.2 and 6.1). It asks nothing.
     pub(crate) fn target<W: NetworkFamily>(
         &self,
         term: u32,
@@ -119,7 +122,8 @@ impl Scene<'_> {
     ) -> Result<(Bytes, Name), Halt>
         requires { TargetFits (Some spec.now) }
         ensures { (asked : List Asked) → Settles (says self.now.zones.now)
-            (λ a counts. judging.naming_target (site_at self.now (address_of W.family a)) term spec.now counts) asked asked result }
+            (λ a counts. judging.naming_target (site_at self.now
+            (address_of W.family a)) term spec.now counts) asked asked result }
     {
         let text = self.target_text::<W>(term, Some(spec))?;
         match name_of(text.as_slice()) {
@@ -131,7 +135,8 @@ impl Scene<'_> {
     /// The answer of the zones to a question, which is noted.
     #[tactic(auto, unfolding(spf_model::specs::Run::says))]
     fn answer(&self, name: &Name, kind: QKind, asked: &mut Questions) -> Result<Answer, AllocError>
-        ensures answer { IfOk result (λ answer. answer ≡ says self.now.zones.now (record { name = name.now; kind = kind })) }
+        ensures answer { IfOk result (λ answer. answer ≡ says self.now.zones.now
+            (record { name = name.now; kind = kind })) }
         ensures noted { OnOk result (asked.new ≡ asked.old ++ (record { name = name.now; kind = kind }) ∷ []) }
     {
         let question = Question {
@@ -142,7 +147,8 @@ impl Scene<'_> {
         self.zones.answer(name, kind)
     }
 
-    /// The answer to a term's question. One that lies outside leaves the term open, and one that goes round is an error.
+    /// The answer to a term's question. One that lies outside leaves the term open, and one that goes round is an
+    /// error.
     pub(crate) fn ask<W: NetworkFamily>(
         &self,
         term: u32,
@@ -150,7 +156,9 @@ impl Scene<'_> {
         kind: QKind,
         asked: &mut Questions,
     ) -> Result<Answer, Halt>
-        ensures { Settles (says self.now.zones.now) (λ a counts. judging.ask (site_at self.now (address_of W.family a)) term counts (record { name = name.now; kind = kind })) asked.old asked.new result }
+        ensures { Settles (says self.now.zones.now)
+            (λ a counts. judging.ask (site_at self.now (address_of W.family a)) term counts
+            (record { name = name.now; kind = kind })) asked.old asked.new result }
     {
         match self.answer(name, kind, asked)? {
             Answer::Outside => Err(self.open(Cause::Outside, term)),
@@ -174,7 +182,8 @@ impl Scene<'_> {
     /// The terms of the one record that has an SPF text (RFC 7208, section 4.5).
     fn choose_record(&self, bodies: &[Body]) -> Result<Terms, Halt>
         ensures chosen { (asked : List Asked) → Settles (says self.now.zones.now)
-            (λ a counts. check.with_texts self.now.name.now counts (filter_map check.spf_text_of bodies.now)) asked asked result }
+            (λ a counts. check.with_texts self.now.name.now counts
+            (filter_map check.spf_text_of bodies.now)) asked asked result }
         ensures fit { IfOk result TermsFit }
     {
         let texts = spf_texts(self.alloc, bodies)?;
@@ -187,7 +196,8 @@ impl Scene<'_> {
 
     /// The terms of the record at the domain (RFC 7208, sections 4.3 to 4.6).
     pub(crate) fn find_record(&self, asked: &mut Questions) -> Result<Terms, Halt>
-        ensures found { Settles (says self.now.zones.now) (λ a counts. check.with_record self.now.name.now counts) asked.old asked.new result }
+        ensures found { Settles (says self.now.zones.now)
+            (λ a counts. check.with_record self.now.name.now counts) asked.old asked.new result }
         ensures fit { IfOk result TermsFit }
     {
         if self.name.label_count() < 2 {

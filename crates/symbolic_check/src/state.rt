@@ -131,7 +131,8 @@ impl State {
         }
     }
 
-    /// What stands here after a record that a term asked for, at the end of which this stands (RFC 7208, sections 5.2 and 6.1).
+    /// What stands here after a record that a term asked for, at the end of which this stands (RFC 7208, sections 5.2
+    /// and 6.1).
     pub(crate) fn after_target(
         &self,
         alloc: Global,
@@ -195,7 +196,8 @@ fn failed(alloc: Global, outcome: Outcome) -> Result<State, AllocError>
     Ok(State::Failed(Failure::new(alloc, outcome)?))
 }
 
-/// The outcome of a record that a term asked for. That there is none is an error of the term (RFC 7208, sections 5.2 and 6.1).
+/// The outcome of a record that a term asked for. That there is none is an error of the term (RFC 7208, sections 5.2
+/// and 6.1).
 fn required(outcome: &Outcome, place: &Place) -> Result<Outcome, AllocError>
     ensures { IfOk result (λ required. required ≡ step.required place.now outcome.now) }
 {

@@ -101,15 +101,16 @@ pub(crate) fn match_networks<W: Width>(
     )
 }
 
-/// The states with which a record that is asked for is entered: those of the live addresses, once the lookup of the term that
-/// asks for it is counted (RFC 7208, sections 4.6.4 and 5.2).
+/// The states with which a record that is asked for is entered: those of the live addresses, once the lookup of the
+/// term that asks for it is counted (RFC 7208, sections 4.6.4 and 5.2).
 pub(crate) fn enter<W: Width>(
     alloc: Global,
     states: &States<W>,
     limits: Limits,
     place: &Place,
 ) -> Result<States<W>, AllocError>
-    ensures { IfOk result (λ new. StepsAt W.BITS (λ a state. step.after_lookup limits place.now (step.entered state)) states.now new) }
+    ensures { IfOk result (λ new. StepsAt W.BITS (λ a state. step.after_lookup limits place.now
+        (step.entered state)) states.now new) }
 {
     states.map(|state| state.entered().after_lookup(alloc, limits, place))
 }
@@ -135,7 +136,8 @@ pub(crate) fn use_target<W: Width>(
 
 /// The outcome of each address, where the record is evaluated whole.
 pub(crate) fn outcomes<W: Width>(states: &States<W>) -> Result<TrieMap<W, Ending>, AllocError>
-    ensures { IfOk result (λ ends. (a : ℕ) → a < 2 ^ W.BITS → value_at W.BITS ends a ≡ option_map step.outcome_of (value_at W.BITS states.now a)) }
+    ensures { IfOk result (λ ends. (a : ℕ) → a < 2 ^ W.BITS
+        → value_at W.BITS ends a ≡ option_map step.outcome_of (value_at W.BITS states.now a)) }
 {
     states.map(|state| state.ending())
 }

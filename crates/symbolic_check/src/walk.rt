@@ -1,5 +1,5 @@
-//! check_host for every address of a family: records, their terms, and the records that these ask for (RFC 7208, sections
-//! 4.6, 5.2 and 6.1).
+//! check_host for every address of a family: records, their terms, and the records that these ask for (RFC 7208,
+//! sections 4.6, 5.2 and 6.1).
 ghost use Rattle.addr_bits.specs.Address.{address_of};
 ghost use Rattle.std.specs.Prelude.{◌≡◌, ◌-◌, ◌≤◌, ℕ, true, List, ◌++◌, length, take, drop, IfOk, Some};
 ghost use Rattle.std.specs.List.{list_all};
@@ -23,7 +23,8 @@ use spf_model::{Cause, Halt, Lens, Outcome, redirect_of};
 use std::alloc::AllocError;
 use zone_answers::Questions;
 
-/// Whether a row of networks may have this term: a directive with a network or `all`, or a modifier, which is passed over.
+/// Whether a row of networks may have this term: a directive with a network or `all`, or a modifier, which is passed
+/// over.
 fn is_row_term(term: &Term) -> bool
     ensures { result ≡ networks.is_row_term term.now }
 {
@@ -64,8 +65,12 @@ impl Scene<'_> {
         requires within { end ≤ length terms.now }
         requires row { list_all networks.is_row_term (take (end - start) (drop start terms.now)) ≡ true }
         ensures { IfOk result (λ mid. (depth t : ℕ) (rest : List GivenTerm) (new : _) (asked more : List Question)
-            → Walks W.BITS (says self.now.zones.now) (terms_stretch (address_of W.family) self.now depth (number_after t (end - start)) rest) mid new asked more
-            → Walks W.BITS (says self.now.zones.now) (terms_stretch (address_of W.family) self.now depth t (take (end - start) (drop start terms.now) ++ rest)) states new asked more) }
+            → Walks W.BITS (says self.now.zones.now)
+            (terms_stretch (address_of W.family) self.now depth
+            (number_after t (end - start)) rest) mid new asked more
+            → Walks W.BITS (says self.now.zones.now)
+            (terms_stretch (address_of W.family) self.now depth t
+            (take (end - start) (drop start terms.now) ++ rest)) states new asked more) }
     {
         if start == end {
             return Ok(states);
@@ -88,8 +93,8 @@ impl Scene<'_> {
         self.walk_row(&terms[start..], states)
     }
 
-    /// The record that a term asks for, with the states that enter it once its lookup is counted. Where its target is no name, its
-    /// evaluation ends with that.
+    /// The record that a term asks for, with the states that enter it once its lookup is counted. Where its target is
+    /// no name, its evaluation ends with that.
     #[cycle(walk)]
     fn reach_target<W: NetworkFamily>(
         &self,
@@ -217,7 +222,8 @@ impl Scene<'_> {
         self.end_row(terms, start, walked)
     }
 
-    /// What comes where no directive of the record matches (RFC 7208, sections 4.7 and 6.1). Mostly no address is live here.
+    /// What comes where no directive of the record matches (RFC 7208, sections 4.7 and 6.1). Mostly no address is live
+    /// here.
     #[cycle(walk)]
     fn walk_default<W: NetworkFamily>(
         &self,
@@ -228,7 +234,8 @@ impl Scene<'_> {
     ) -> Result<States<W>, AllocError>
         requires { TermsFit terms.now }
         ensures { IfOk result (λ new. Walks W.BITS (says self.now.zones.now)
-            (default_stretch (address_of W.family) self.now depth (redirect_from 1 terms.now)) states new asked.old asked.new) }
+            (default_stretch (address_of W.family) self.now depth
+            (redirect_from 1 terms.now)) states new asked.old asked.new) }
     {
         if !steps::is_some_live(&states) {
             return Ok(states);

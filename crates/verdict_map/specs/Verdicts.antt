@@ -44,10 +44,12 @@ pub record IsLeastWithout (bits : ℕ) (outcomes : List (Cidr × Outcome)) (a : 
 
 -- the same as a refusal of one family; want of memory may come anywhere
 abbrev pub IsFamilyFault : Family → (bits : ℕ) → List (Cidr × Outcome) → VerdictFault → Type 0
-IsFamilyFault f bits outcomes (Refused address outcome) = (a : ℕ) × (address ≡ address_of f a) × IsLeastWithout bits outcomes a outcome
+IsFamilyFault f bits outcomes (Refused address outcome) = (a : ℕ) × (address ≡ address_of f a)
+    × IsLeastWithout bits outcomes a outcome
 IsFamilyFault f bits outcomes Memory = Unit {0}
 
--- project's own choice: a refusal is of the least IPv4 address without a verdict, or where there is none of the least IPv6 address
+-- project's own choice: a refusal is of the least IPv4 address without a verdict, or where there is none of the least
+-- IPv6 address
 abbrev pub IsRefused : List (Cidr × Outcome) → List (Cidr × Outcome) → Address → Outcome → Type 0
 IsRefused v4 v6 (V4 a) outcome = IsLeastWithout 32 v4 a outcome
 IsRefused v4 v6 (V6 a) outcome = HaveVerdicts 32 v4 × IsLeastWithout 128 v6 a outcome

@@ -35,7 +35,8 @@ fn verdict_of(ending: &Ending) -> Verdict
 fn least_without<W: Width>(
     outcomes: &TrieMap<W, Ending>,
 ) -> Result<Option<(W, Outcome)>, AllocError>
-    ensures found { IfOk result (λ least. IfSome least (λ pair. IsLeastWithout W.BITS outcomes.now (W.number pair.0) pair.1)) }
+    ensures found { IfOk result (λ least. IfSome least
+        (λ pair. IsLeastWithout W.BITS outcomes.now (W.number pair.0) pair.1)) }
     ensures none { IfOk result (λ least. IfNone least (HaveVerdicts W.BITS outcomes.now)) }
 {
     match outcomes.least_where(|outcome| !is_verdict(outcome)) {
@@ -49,18 +50,20 @@ fn least_without<W: Width>(
 
 /// The verdict at each address, and neutral where the outcome is none.
 fn verdicts_of<W: Width>(outcomes: &TrieMap<W, Ending>) -> Result<TrieMap<W, Verdict>, AllocError>
-    ensures { IfOk result (λ verdicts. (a : ℕ) → a < 2 ^ W.BITS → value_at W.BITS verdicts a ≡ option_map verdict_or_neutral (value_at W.BITS outcomes.now a)) }
+    ensures { IfOk result (λ verdicts. (a : ℕ) → a < 2 ^ W.BITS
+        → value_at W.BITS verdicts a ≡ option_map verdict_or_neutral (value_at W.BITS outcomes.now a)) }
 {
     outcomes.map(|outcome| Ok(verdict_of(outcome)))
 }
 
-/// The verdict of every address of a family. `Refused` comes exactly where some address has an outcome that is no verdict,
-/// with the least such address and its outcome; `Memory` where there is no memory.
+/// The verdict of every address of a family. `Refused` comes exactly where some address has an outcome that is no
+/// verdict, with the least such address and its outcome; `Memory` where there is no memory.
 #[tactic(auto, using(crate::proofs::Outcomes::verdict_of_outcome))]
 fn family_verdicts<W: AddressFamily>(
     outcomes: &TrieMap<W, Ending>,
 ) -> Result<TrieMap<W, Verdict>, VerdictFault>
-    ensures found { IfOk result (λ tries. (a : ℕ) → a < 2 ^ W.BITS → IsVerdictOf (value_at W.BITS outcomes.now a) (value_at W.BITS tries a)) }
+    ensures found { IfOk result (λ tries. (a : ℕ) → a < 2 ^ W.BITS
+        → IsVerdictOf (value_at W.BITS outcomes.now a) (value_at W.BITS tries a)) }
     ensures fault { IfErr result (IsFamilyFault W.family W.BITS outcomes.now) }
 {
     if let Some((a, outcome)) = least_without(outcomes)? {
@@ -73,14 +76,16 @@ fn family_verdicts<W: AddressFamily>(
 }
 
 /// The verdict of every address. `Refused` comes exactly where some address has an outcome that is no verdict, with the
-/// least IPv4 address of that kind, or where there is none the least IPv6 address, and its outcome; `Memory` where there is
-/// no memory.
+/// least IPv4 address of that kind, or where there is none the least IPv6 address, and its outcome; `Memory` where
+/// there is no memory.
 pub fn verdicts(
     v4: &TrieMap<u32, Ending>,
     v6: &TrieMap<u128, Ending>,
 ) -> Result<VerdictTries, VerdictFault>
-    ensures four { IfOk result (λ tries. (a : ℕ) → a < 2 ^ 32 → IsVerdictOf (value_at 32 v4.now a) (value_at 32 tries.v4 a)) }
-    ensures six { IfOk result (λ tries. (a : ℕ) → a < 2 ^ 128 → IsVerdictOf (value_at 128 v6.now a) (value_at 128 tries.v6 a)) }
+    ensures four { IfOk result (λ tries. (a : ℕ) → a < 2 ^ 32
+        → IsVerdictOf (value_at 32 v4.now a) (value_at 32 tries.v4 a)) }
+    ensures six { IfOk result (λ tries. (a : ℕ) → a < 2 ^ 128
+        → IsVerdictOf (value_at 128 v6.now a) (value_at 128 tries.v6 a)) }
     ensures fault { IfErr result (IsFault v4.now v6.now) }
 {
     let v4 = family_verdicts(v4)?;

@@ -30,7 +30,8 @@ summary records name = record { places = places_from 0 records name; delegates =
 
 -- each name at or below which a record stands is there, with what stands at it, and no other
 pub record IsIndex (records : List Record) (nodes : List (List (List ℕ) × Node)) : Type 0 where
-  pub at : (name : List (List ℕ)) → lookup (same_name name) nodes ≡ (if has_record records name then Some (summary records name) else None)
+  pub at : (name : List (List ℕ)) → lookup (same_name name) nodes ≡
+      (if has_record records name then Some (summary records name) else None)
 
 -- a name with no record
 abbrev pub empty_node : Node

@@ -21,12 +21,12 @@ bodies_of zones name = bodies_in (zone_of zones name) name
 abbrev pub has_own_alias : List Zone → List (List ℕ) → Bool
 has_own_alias zones name = list_any (λ body. is_some (target_of body)) (bodies_of zones name)
 
--- RFC 7208, 3.3: the strings of a TXT record joined; its length, unless it is an SPF text
+-- RFC 7208, section 3.3: the strings of a TXT record joined; its length, unless it is an SPF text
 abbrev pub other_len : Body → ℕ
 other_len (Txt strings) = if is_spf_text (concat strings) then 0 else length (concat strings)
 other_len _ = 0
 
--- RFC 7208, 3.3, and the project's own choice: the octets of the joined texts at the name that are no SPF texts
+-- RFC 7208, section 3.3, and the project's own choice: the octets of the joined texts at the name that are no SPF texts
 abbrev pub other_text_of : List Zone → List (List ℕ) → ℕ
 other_text_of zones name = sum_by other_len (bodies_of zones name)
 

@@ -16,7 +16,8 @@ pub enum LendFault {
     #[error("{count} records")]
     TooMany { count: u64 },
 
-    /// A CNAME record stands beside another record of a type that is read at this name, the least such by its printed form.
+    /// A CNAME record stands beside another record of a type that is read at this name, the least such by its printed
+    /// form.
     #[error("an alias beside other records")]
     AliasAndOther { name: Name },
 

@@ -12,10 +12,12 @@ ghost use Rattle.zone_answers.specs.Lend.{AreLendable, AreZones, IsBodyFit};
 
 /// The records of a master file may be lent as those of its zone.
 pub fn read_records_are_lendable()
-    ensures { (zone : List (List ℕ)) (bytes : List ℕ) (records : List Record) → Reads zone bytes records → AreLendable zone records }
+    ensures { (zone : List (List ℕ)) (bytes : List ℕ) (records : List Record) → Reads zone bytes records
+        → AreLendable zone records }
 {}
 
 /// The bodies of an answer are as those of the records that may be lent.
 pub fn found_bodies_are_fit()
-    ensures { (zones : List Zone) (name : List (List ℕ)) (kind : QKind) (bodies : List Body) → AreZones zones → answer_of zones name kind ≡ Found bodies → AllByRecursion IsBodyFit bodies }
+    ensures { (zones : List Zone) (name : List (List ℕ)) (kind : QKind) (bodies : List Body) → AreZones zones
+        → answer_of zones name kind ≡ Found bodies → AllByRecursion IsBodyFit bodies }
 {}

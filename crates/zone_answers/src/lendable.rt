@@ -7,8 +7,8 @@ ghost use Rattle.zone_answers.specs.Lend.{AreLendable, IsBodyFit};
 use dns_name::Name;
 use master_reader::{Body, MAX_STRING, MAX_TEXT, Record, Records, Text};
 
-/// Whether the records may be lent as those of the zone at the origin: each owner is at or below the origin, and each TXT
-/// record has one or more strings of at most 255 octets, which with a length octet each have at most 65,535.
+/// Whether the records may be lent as those of the zone at the origin: each owner is at or below the origin, and each
+/// TXT record has one or more strings of at most 255 octets, which with a length octet each have at most 65,535.
 pub fn are_lendable(origin: &Name, records: &Records) -> bool
     ensures { IsTrue result ↔ AreLendable origin.now records.now }
 {
@@ -39,7 +39,8 @@ fn is_body_fit(body: &Body) -> bool
 
 /// Whether the strings are those of a TXT record.
 fn are_strings_fit(strings: &Text) -> bool
-    ensures { IsTrue result ↔ ((0 < length strings.now) × AllByRecursion (λ s. length s ≤ 255) strings.now × (sum_by (λ s. length s + 1) strings.now ≤ 65535)) }
+    ensures { IsTrue result ↔ ((0 < length strings.now) × AllByRecursion (λ s. length s ≤ 255) strings.now
+        × (sum_by (λ s. length s + 1) strings.now ≤ 65535)) }
 {
     let mut octets = 0;
     for string in strings.as_slice() {

@@ -68,7 +68,8 @@ fn is_delegation(body: &Body) -> bool
 /// Adds the name and those above it that are not there yet.
 fn add_names(alloc: Global, nodes: &mut Nodes, added: Name) -> Result<(), AllocError>
     ensures { OnOk result ((name : List (List ℕ))
-        → lookup (same_name name) nodes.new.entries ≡ filled (is_under added name) (lookup (same_name name) nodes.old.entries)) }
+        → lookup (same_name name) nodes.new.entries ≡ filled (is_under added name)
+        (lookup (same_name name) nodes.old.entries)) }
 {
     let parent = added.parent();
     add_name(alloc, nodes, added)?;
@@ -81,7 +82,8 @@ fn add_names(alloc: Global, nodes: &mut Nodes, added: Name) -> Result<(), AllocE
 /// Adds the name with no record, if it is not there yet.
 fn add_name(alloc: Global, nodes: &mut Nodes, added: Name) -> Result<(), AllocError>
     ensures { OnOk result ((name : List (List ℕ))
-        → lookup (same_name name) nodes.new.entries ≡ filled (same_name added name) (lookup (same_name name) nodes.old.entries)) }
+        → lookup (same_name name) nodes.new.entries ≡ filled (same_name added name)
+        (lookup (same_name name) nodes.old.entries)) }
 {
     if nodes.contains_key(&added) {
         return Ok(());

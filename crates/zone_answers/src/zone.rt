@@ -95,7 +95,8 @@ impl LentZone {
         }
     }
 
-    /// Whether the name, which lies at or below the origin, lies at or below a delegation (RFC 1034, section 4.3.2, step 3 b).
+    /// Whether the name, which lies at or below the origin, lies at or below a delegation (RFC 1034, section 4.3.2,
+    /// step 3 b).
     pub(crate) fn is_cut_off(&self, name: &Name) -> bool
         requires { IsUnder name.now self.now.origin }
         ensures { result ≡ is_cut_off self.now name.now }
@@ -208,7 +209,8 @@ impl LentZone {
 
     /// The least name at which records clash, by the order of printed names.
     pub(crate) fn least_clash(&self, alloc: Global) -> Result<Option<Name>, AllocError>
-        ensures { IfOk result (λ least. MatchOption least ((owner : List (List ℕ)) → IsFalse (has_clash self.now owner)) (IsLeastClash self.now)) }
+        ensures { IfOk result (λ least. MatchOption least
+            ((owner : List (List ℕ)) → IsFalse (has_clash self.now owner)) (IsLeastClash self.now)) }
     {
         let names = self.nodes.keys().as_slice();
         let mut least = None;

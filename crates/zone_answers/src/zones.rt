@@ -56,7 +56,8 @@ impl Zones {
     }
 
     /// Lends a zone. Equal records count once (RFC 2181, section 5). Refused are, in this order, a second zone of this
-    /// origin, more than 65,536 records in all, and an alias beside other records; a refusal leaves the zones as they were.
+    /// origin, more than 65,536 records in all, and an alias beside other records; a refusal leaves the zones as they
+    /// were.
     pub fn lend(&mut self, origin: Name, records: Records) -> Result<(), LendFault>
         requires lendable { AreLendable origin records }
         ensures lent { OnOk result (self.new ≡ with_zone self.old origin records) }
@@ -129,7 +130,8 @@ impl Zones {
 
     /// The answer in the zone that holds the name, or the alias that leads on.
     fn step(&self, name: &Name, kind: QKind) -> Result<Step, AllocError>
-        ensures { IfOk result (λ step. (follow : List (List ℕ) → Answer) → outcome_of follow step ≡ in_zone kind follow name.now (zone_of self.now name.now)) }
+        ensures { IfOk result (λ step. (follow : List (List ℕ) → Answer)
+            → outcome_of follow step ≡ in_zone kind follow name.now (zone_of self.now name.now)) }
     {
         let Some(zone) = self.zone_of(name) else {
             return Ok(Step::Known(Answer::Outside));
@@ -160,8 +162,8 @@ impl Zones {
         }
     }
 
-    /// The sum of the lengths, in octets, of the joined TXT texts at the name that are no SPF texts, in the zone that holds
-    /// it (RFC 7208, section 3.3).
+    /// The sum of the lengths, in octets, of the joined TXT texts at the name that are no SPF texts, in the zone that
+    /// holds it (RFC 7208, section 3.3).
     pub fn other_text(&self, name: &Name) -> u64
         ensures { result ≡ other_text_of self.now name.now }
     {

@@ -44,6 +44,7 @@ abbrev pub head_text : (domain : List ℕ) → (ttl : ℕ) → List ℕ
 head_text domain ttl = codes "$ORIGIN " ++ domain ++ codes ".\n$TTL " ++ decimal ttl ++ codes "\n"
 
 -- the whole fragment
-abbrev pub fragment_text : (domain label : List ℕ) → (ttl : ℕ) → List FlatTerm → (ends : List ℕ) → (rows4 rows6 : List NeedRow) → (total : ℕ) → List ℕ
+abbrev pub fragment_text : (domain label : List ℕ) → (ttl : ℕ) → List FlatTerm → (ends : List ℕ)
+    → (rows4 rows6 : List NeedRow) → (total : ℕ) → List ℕ
 fragment_text domain label ttl list ends rows4 rows6 total =
     head_text domain ttl ++ record_lines domain label 0 (pieces_from list 0 ends) ++ table_text rows4 rows6 total

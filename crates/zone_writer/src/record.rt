@@ -100,7 +100,8 @@ pub(crate) fn push_record(
     last: bool,
 ) -> Result<(), AllocError>
     requires { index < 11 }
-    ensures { OnOk result (zone.new ≡ zone.old ++ record_line (owner_text label.now index) (record_text domain.now label.now terms.now index last)) }
+    ensures { OnOk result (zone.new ≡ zone.old ++ record_line (owner_text label.now index)
+        (record_text domain.now label.now terms.now index last)) }
 {
     let text = write_text(alloc, terms, domain, label, index, last)?;
     push_owner(zone, label, index)?;

@@ -35,7 +35,8 @@ fn push_records(
     label: &[u8],
 ) -> Result<(), AllocError>
     requires { IsCut (length list.now) ends.now }
-    ensures { OnOk result (zone.new ≡ zone.old ++ record_lines domain.now label.now 0 (pieces_from list.now 0 ends.now)) }
+    ensures { OnOk result (zone.new ≡ zone.old ++ record_lines domain.now label.now 0
+        (pieces_from list.now 0 ends.now)) }
 {
     let mut from = 0;
     for (index, end) in ends.iter().enumerate() {
