@@ -1,1 +1,5 @@
+pub mod Answers
 pub mod Lines
+pub mod Parts
+pub mod Placed
+pub mod Reading
