@@ -149,6 +149,9 @@ row_whole f line row s =
     append_cancel_right line (((codes "; row " ++ text_in f row.prefix.start) ++ 47 ∷ decimal row.prefix.len) ++ needs_text row.needs) (10 ∷ []) s.written
     ∙ regroup (codes "; row ") (text_in f row.prefix.start) (decimal row.prefix.len) (decimal row.needs.fail) (decimal row.needs.softfail) (decimal row.needs.pass) (decimal row.needs.neutral)
 
+pub row_begins : (f : Family) (line : List ℕ) (row : NeedRow) → SpellsRow f line row → (rest : List ℕ) × (line ≡ codes "; row " ++ rest)
+row_begins f line row s = ((text_in f row.prefix.start ++ 47 ∷ decimal row.prefix.len) ++ 32 ∷ needs_tail row.needs, row_whole f line row s)
+
 pub no_row_word : (f : Family) (line : List ℕ) → ((rest : List ℕ) → ¬ (line ≡ codes "; row " ++ rest)) → (row : NeedRow) → SpellsRow f line row → ⊥
 no_row_word f line none row s = none ((text_in f row.prefix.start ++ 47 ∷ decimal row.prefix.len) ++ 32 ∷ needs_tail row.needs) (row_whole f line row s)
 
@@ -177,7 +180,7 @@ row_read f line rest front text row e c p n = record {
 
 -- ---- the total
 
-total_whole : (line : List ℕ) (total : ℕ) → SpellsTotal line total → line ≡ codes "; fewest " ++ decimal total
+pub total_whole : (line : List ℕ) (total : ℕ) → SpellsTotal line total → line ≡ codes "; fewest " ++ decimal total
 total_whole line total s = append_cancel_right line (codes "; fewest " ++ decimal total) (10 ∷ []) s.1
 
 pub no_total_word : (line : List ℕ) → ((rest : List ℕ) → ¬ (line ≡ codes "; fewest " ++ rest)) → (total : ℕ) → SpellsTotal line total → ⊥
