@@ -16,15 +16,21 @@ IsTableAnswer lines (Err (NotTable line)) = IsMisspelled lines line
 IsTableAnswer lines (Err Memory) = Unit {0}
 
 -- one line more: rows behind the rows, or the total, or a line that says nothing, or no memory
-abbrev pub IsStep : (line : ℕ) → (text : List ℕ) → (old4 old6 new4 new6 : List PlacedRow) → Result (Option ℕ) TableFault → Type 0
+abbrev pub IsStep : (line : ℕ) → (text : List ℕ) → (old4 old6 new4 new6 : List PlacedRow)
+    → Result (Option ℕ) TableFault → Type 0
 IsStep line text old4 old6 new4 new6 (Ok None) =
-    (more4 more6 : List PlacedRow) × HaveRows line (text ∷ []) more4 more6 × (new4 ≡ old4 ++ more4) × (new6 ≡ old6 ++ more6)
-IsStep line text old4 old6 new4 new6 (Ok (Some total)) = (is_table_line text ≡ true) × SpellsTotal text total × (new4 ≡ old4) × (new6 ≡ old6)
-IsStep line text old4 old6 new4 new6 (Err (NotTable place)) = (is_table_line text ≡ true) × (place ≡ line) × SpellsNothing text
+    (more4 more6 : List PlacedRow) × HaveRows line (text ∷ []) more4 more6
+    × (new4 ≡ old4 ++ more4) × (new6 ≡ old6 ++ more6)
+IsStep line text old4 old6 new4 new6 (Ok (Some total)) =
+    (is_table_line text ≡ true) × SpellsTotal text total × (new4 ≡ old4) × (new6 ≡ old6)
+IsStep line text old4 old6 new4 new6 (Err (NotTable place)) =
+    (is_table_line text ≡ true) × (place ≡ line) × SpellsNothing text
 IsStep line text old4 old6 new4 new6 (Err Memory) = Unit {0}
 
 -- the row of a line behind the rows, if it is that of a row of the family, or no memory
-abbrev pub IsPushed : Family → (line : ℕ) → (text : List ℕ) → (old new : List PlacedRow) → Result Bool AllocError → Type 0
-IsPushed f line text old new (Ok true) = (row : NeedRow) × SpellsRow f text row × (new ≡ old ++ record { line = line; row = row } ∷ [])
+abbrev pub IsPushed : Family → (line : ℕ) → (text : List ℕ) → (old new : List PlacedRow)
+    → Result Bool AllocError → Type 0
+IsPushed f line text old new (Ok true) =
+    (row : NeedRow) × SpellsRow f text row × (new ≡ old ++ record { line = line; row = row } ∷ [])
 IsPushed f line text old new (Ok false) = ((row : NeedRow) → ¬ SpellsRow f text row) × (new ≡ old)
 IsPushed f line text old new (Err _) = Unit {0}

@@ -35,7 +35,9 @@ AreSmall needs = (c : Verdict) → number needs c < 2 ^ 32
 -- the four numbers, with a space between two
 pub record SpellsNeeds (text : List ℕ) (needs : Needs) : Type 0 where
   pub small : AreSmall needs
-  pub written : text ≡ decimal needs.fail ++ 32 ∷ (decimal needs.softfail ++ 32 ∷ (decimal needs.pass ++ 32 ∷ decimal needs.neutral))
+  pub written :
+      text
+      ≡ decimal needs.fail ++ 32 ∷ (decimal needs.softfail ++ 32 ∷ (decimal needs.pass ++ 32 ∷ decimal needs.neutral))
 
 -- a prefix in its written form
 pub record SpellsPrefix (f : Family) (text : List ℕ) (p : Cidr) : Type 0 where

@@ -50,8 +50,10 @@ abbrev pub HaveRows : (from : ℕ) → List (List ℕ) → (rows4 rows6 : List P
 HaveRows from [] rows4 rows6 = (rows4 ≡ []) × (rows6 ≡ [])
 HaveRows from (line ∷ lines) rows4 rows6 =
     ((is_table_line line ≡ false) × HaveRows (from + 1) lines rows4 rows6)
-    ⊎ (((row : NeedRow) × (more : List PlacedRow) × SpellsRow V4 line row × (rows4 ≡ record { line = from; row = row } ∷ more) × HaveRows (from + 1) lines more rows6)
-    ⊎ ((row : NeedRow) × (more : List PlacedRow) × SpellsRow V6 line row × (rows6 ≡ record { line = from; row = row } ∷ more) × HaveRows (from + 1) lines rows4 more))
+    ⊎ (((row : NeedRow) × (more : List PlacedRow) × SpellsRow V4 line row
+    × (rows4 ≡ record { line = from; row = row } ∷ more) × HaveRows (from + 1) lines more rows6)
+    ⊎ ((row : NeedRow) × (more : List PlacedRow) × SpellsRow V6 line row
+    × (rows6 ≡ record { line = from; row = row } ∷ more) × HaveRows (from + 1) lines rows4 more))
 
 -- the table lines are those of rows, and the last one is that of the total
 pub record AreTable (lines : List (List ℕ)) (rows4 rows6 : List PlacedRow) (total last : ℕ) : Type 0 where
@@ -64,7 +66,7 @@ pub record AreTable (lines : List (List ℕ)) (rows4 rows6 : List PlacedRow) (to
   pub ends : list_any is_table_line back ≡ false
   pub place : last ≡ length front + 1
 
--- a table line with these lines behind it is faulty: it says nothing, or it says the total and another table line follows
+-- a table line with these lines behind it is faulty: it says nothing, or the total and another table line follows
 abbrev pub IsFaulty : (line : List ℕ) → (back : List (List ℕ)) → Type 0
 IsFaulty line back =
     SpellsNothing line
