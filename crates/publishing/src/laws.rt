@@ -6,8 +6,9 @@ pub fn one_publication()
     ensures { OnePublication }
 {}
 
-/// A fragment that is due is best: of a shortest list with the verdicts, in records that fit, of which no cut that fits
-/// has fewer, whose names are free, and which stand where they are published.
+/// For legal settings a fragment that is due is best: of a shortest list with the verdicts, in records that fit, of
+/// which no cut that fits has fewer, and whose names are free. Where one of the zones holds the domain, below no
+/// delegation, the records stand where they are published.
 pub fn due_is_best()
     ensures { DueIsBest }
 {}

@@ -4,7 +4,7 @@ ghost use Rattle.spf_grammar.specs.declared.verdict.Verdict.{Verdict};
 ghost use Rattle.fewest_terms.specs.Tables.{number};
 
 use addr_bits::{Address, Prefix};
-use bound_table::{check_row, write_table};
+use bound_table::{TableFault, check_row, read_table, write_table};
 use fewest_terms::{Needs, Row, Rows};
 use spf_grammar::{FlatTerm, Net, Verdict, first};
 use std::test::Fail;
@@ -51,6 +51,22 @@ fn a_table_is_written(rt: HostRuntime) -> Result<(), Fail> {
     let lines = write_table(rt.alloc(), &rows4, &rows6, 10)?;
     let wanted: &[u8] = b"; row 0.0.0.0/0 1 2 1 2\n; row 2001:db8::/32 255 3 20 1\n; fewest 10\n";
     assert!(rt; lines.as_slice() == wanted);
+    Ok(())
+}
+
+// The lines that `read_table` takes: those of a table may stand among others.
+const READ: &[u8] = b"$TTL 3600\n; row 0.0.0.0/0 1 2 1 2\n; rows\n; row 2001:db8::/32 255 3 20 1\n; fewest 10\n";
+
+#[test]
+fn a_table_is_read(rt: HostRuntime) -> Result<(), Fail> {
+    let Ok(table) = read_table(rt.alloc(), READ) else {
+        assert!(rt; false);
+        return Ok(());
+    };
+    assert!(rt; table.rows4.len() == 1 && table.rows6.len() == 1);
+    assert!(rt; table.total == 10 && table.last == 5);
+    let fault = read_table(rt.alloc(), b"; row 0.0.0.0/0 1 2 1\n; fewest 10\n").err();
+    assert!(rt; matches!(fault, Some(TableFault::NotTable { line: 1 })));
     Ok(())
 }
 

@@ -1,9 +1,12 @@
 //! Tries of both widths, at plain values.
 
 use addr_bits::Prefix;
+use master_reader::Body;
+use match_sets::{match4, match6};
 use prefix_trie::TrieMap;
 use std::alloc::{AllocError, Global};
 use std::test::Fail;
+use zone_answers::{Answer, Bodies};
 
 /// Of IPv4 addresses, 1 at one prefix and 0 elsewhere.
 fn marked4(alloc: Global, start: u32, len: u32) -> Result<TrieMap<u32, u8>, AllocError> {
@@ -99,5 +102,22 @@ fn a_trie_is_mapped(rt: HostRuntime) -> Result<(), Fail> {
     assert!(rt; other.leaves()?.len() == 25);
     let constant = trie.map(|_| Ok(3u8))?;
     assert!(rt; constant.leaves()?.len() == 1);
+    Ok(())
+}
+
+#[test]
+fn hosts_are_matched(rt: HostRuntime) -> Result<(), Fail> {
+    let mut bodies = Bodies::new(rt.alloc());
+    bodies.push(Body::A(0xc000_0201))?;
+    bodies.push(Body::Aaaa(1))?;
+    let found = Answer::Found(bodies);
+    let four = match4(rt.alloc(), &found, 24)?;
+    for (address, want) in [(0xc000_01ffu32, false), (0xc000_0200, true), (0xc000_02ff, true), (1, false)] {
+        assert!(rt; *four.at(address) == want, "at {address:x}");
+    }
+    let six = match6(rt.alloc(), &found, 127)?;
+    for (address, want) in [(0u128, true), (1, true), (2, false), (0xc000_0201, false)] {
+        assert!(rt; *six.at(address) == want, "at {address:x}");
+    }
     Ok(())
 }
