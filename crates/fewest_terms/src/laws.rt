@@ -8,7 +8,7 @@ pub fn mixed_is_exact()
     ensures { MixedIsExact }
 {}
 
-/// No list spends less below a prefix than it needs.
+/// No list spends less at or below a prefix than the prefix needs.
 pub fn no_list_spends_less()
     ensures { NoListSpendsLess }
 {}

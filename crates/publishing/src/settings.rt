@@ -7,7 +7,7 @@ ghost use Rattle.publishing.specs.Settings.{AreSettings, IsLabelOption};
 ghost use Rattle.publishing.specs.declared.settings.ChainSettings.{ChainSettings};
 
 use addr_bits::Bytes;
-use spf_macros::is_label;
+use spf_macros::{MAX_NAME_TEXT, is_label};
 use spfc_words::{Domain, NumberRow, Row, TextRow, lowercase, read_domain, read_number, read_text};
 use std::alloc::{AllocError, Global};
 
@@ -32,9 +32,6 @@ pub const LABEL: TextRow = TextRow {
     name: "--label",
     by_default: "_spf",
 };
-
-/// The most characters of a name without its final dot (RFC 1035, section 2.3.4).
-const MAX_NAME: usize = 253;
 
 /// What stands between the label and the domain in the name of the last record of a chain.
 const LAST_NUMBER: &str = "10.";
@@ -106,8 +103,8 @@ fn read_label(alloc: Global, rows: &[Row], words: &[String]) -> Result<Option<By
 fn has_room(label: &[u8], domain: &[u8]) -> bool
     ensures { result ≡ settings.has_room label.now domain.now }
 {
-    if label.len() > MAX_NAME || domain.len() > MAX_NAME {
+    if label.len() > MAX_NAME_TEXT || domain.len() > MAX_NAME_TEXT {
         return false;
     }
-    label.len() + LAST_NUMBER.len() + domain.len() <= MAX_NAME
+    label.len() + LAST_NUMBER.len() + domain.len() <= MAX_NAME_TEXT
 }

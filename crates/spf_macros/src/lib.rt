@@ -21,5 +21,5 @@ pub use piece::{Letter, Macro, MacroText, Piece};
 pub use read::read_macro_text;
 pub use targets::target;
 pub use transformers::{digit_count, held_number};
-pub use words::{are_domain_labels, is_domain, is_label};
+pub use words::{MAX_NAME_TEXT, are_domain_labels, is_domain, is_label};
 pub use write::write_macro_text;

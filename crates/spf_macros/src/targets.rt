@@ -7,11 +7,9 @@ ghost use Rattle.spf_macros.specs.Expansion as expansion;
 use crate::MacroText;
 use crate::domain::without_final_dot;
 use crate::expansion::{Expanded, expand};
+use crate::words::MAX_NAME_TEXT;
 use addr_bits::{Bytes, Family};
 use std::alloc::{AllocError, Global};
-
-/// The most characters of a name without a final dot (RFC 7208, section 7.3).
-const MAX_TARGET: usize = 253;
 
 /// What stands behind the first dot; `None` exactly where there is no dot.
 fn behind_dot(text: &[u8]) -> Option<&[u8]>
@@ -34,7 +32,7 @@ fn cut_to_fit(text: &[u8]) -> &[u8]
     ensures { result.now ≡ expansion.cut_to_fit text.now }
 {
     let mut rest = text;
-    while rest.len() > MAX_TARGET {
+    while rest.len() > MAX_NAME_TEXT {
         let Some(behind) = behind_dot(rest) else {
             return rest;
         };

@@ -5,6 +5,9 @@ ghost use Rattle.spf_macros.specs.Words as words;
 
 use crate::toplabel::{begins_with_hyphen, is_let_dig_hyp, is_toplabel};
 
+/// The most characters of the text of a name, without its final dot (RFC 1035, section 2.3.4).
+pub const MAX_NAME_TEXT: usize = 253;
+
 /// A letter, digit, hyphen or underscore.
 fn is_word_byte(byte: u8) -> bool
     ensures { result ≡ words.is_word_byte byte }
@@ -56,7 +59,7 @@ pub(crate) fn last_label(text: &[u8]) -> &[u8]
 pub fn is_domain(text: &[u8]) -> bool
     ensures { result ≡ words.is_domain text.now }
 {
-    if text.len() > 253 || label_count(text) < 2 {
+    if text.len() > MAX_NAME_TEXT || label_count(text) < 2 {
         return false;
     }
     are_domain_labels(text) && is_toplabel(last_label(text))
