@@ -1,0 +1,4 @@
+pub mod LineLemmas
+pub mod LineSplit
+pub mod OneRound
+pub mod RowLemmas

@@ -1,1 +1,6 @@
+pub mod Answers
+pub mod Laws
 pub mod Lines
+pub mod Parts
+pub mod Placed
+pub mod Reading

@@ -3,8 +3,11 @@
 
 mod check;
 mod laws;
+mod line;
 mod lines;
+mod table;
 
 pub use check::check_row;
-pub use laws::table_bounds;
+pub use laws::{one_first_round, table_bounds};
 pub use lines::{append_table, write_table};
+pub use table::{LineRow, LineRows, Table, TableFault, read_table};
