@@ -1,5 +1,6 @@
 //! What the words come to, before anything is written.
 ghost use Rattle.std.specs.Prelude.{◌≡◌, IfOk};
+ghost use Rattle.spfc_outer.specs.Seen.{Keeps};
 ghost use Rattle.loading.specs.Refusals.{refusal_status, refusal_line};
 ghost use Rattle.jobs.specs.Meaning.{program};
 ghost use Rattle.jobs.specs.Given.{given};
@@ -26,7 +27,8 @@ pub fn answer_words<J: Job, F: Files>(
     words: &[String],
     files: &mut F,
 ) -> Result<Answer, AllocError>
-    ensures { IfOk result
+    ensures keeps { Keeps (F.seen files.old) (F.seen files.new) }
+    ensures answer { IfOk result
         (IsAnswer (program J.spells J.meaning) (given words.now (F.seen files.old)) (F.seen files.new)) }
 {
     let Some(job) = J::read(alloc, words)? else {

@@ -17,6 +17,8 @@ use std::alloc::Global;
 use zone_answers::Zones;
 
 /// The files of a job, read in order. A file of more than 8,388,608 bytes is refused, of which one byte more is read.
+/// No two inputs of one group are to have one origin, and those of `push_zone_words` have none: the second one is
+/// answered as want of memory.
 pub fn load_inputs<F: Files>(
     alloc: Global,
     files: &mut F,
@@ -25,7 +27,7 @@ pub fn load_inputs<F: Files>(
     ensures keeps { Keeps (F.seen files.old) (F.seen files.new) }
     ensures done { IsTrue (F.seen files.old).told
         → IfOk result (λ loaded. Loads (F.seen files.old).held inputs.now (Ok loaded)) }
-    ensures none { inputs.now ≡ [] → result ≡ Ok nothing }
+    ensures none { inputs.now ≡ [] → (result ≡ Ok nothing) × (files.new ≡ files.old) }
     ensures stops { IfErr result (ErrorIs (StopsAmong (F.seen files.old) (F.seen files.new) inputs.now)) }
 {
     let mut loaded = Loaded::new(alloc);

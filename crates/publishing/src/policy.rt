@@ -1,5 +1,5 @@
 //! Publishing the policy of a domain.
-ghost use Rattle.std.specs.Prelude.{Ok, Err, IsOk, IfOk, IfErr};
+ghost use Rattle.std.specs.Prelude.{◌≡◌, Ok, Err, IfOk, IfErr};
 ghost use Rattle.dns_name.specs.Name.{name_of_text};
 ghost use Rattle.spf_model.specs.Result.{AreModest};
 ghost use Rattle.loading.specs.Memory.{ErrorIs};
@@ -21,7 +21,7 @@ pub fn publish_policy(
     settings: &ChainSettings,
     limits: Limits,
 ) -> Result<Bytes, OrMemory<Refusal>>
-    requires named { IsOk (name_of_text settings.now.domain.text) }
+    requires named { name_of_text settings.now.domain.text ≡ Ok settings.now.domain.name }
     requires modest { AreModest limits }
     ensures written { IfOk result (λ bytes. PolicyDue settings.now limits zones.now (Ok bytes)) }
     ensures refused { IfErr result (ErrorIs (λ why. PolicyDue settings.now limits zones.now (Err why))) }

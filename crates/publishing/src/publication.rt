@@ -1,5 +1,6 @@
 //! Publishing verdicts: a shortest list as the fewest records that fit.
-ghost use Rattle.std.specs.Prelude.{Ok, Err, IfOk, IfErr};
+ghost use Rattle.std.specs.Prelude.{◌≡◌, Ok, Err, IfOk, IfErr};
+ghost use Rattle.dns_name.specs.Name.{name_of_text};
 ghost use Rattle.fewest_terms.specs.Leaves.{verdict_at as trie_verdict};
 ghost use Rattle.zone_answers.specs.Names.{other_text_of};
 ghost use Rattle.loading.specs.Memory.{ErrorIs};
@@ -26,6 +27,7 @@ pub fn publish(
     settings: &ChainSettings,
     tries: &VerdictTries,
 ) -> Result<Bytes, OrMemory<Refusal>>
+    requires named { name_of_text settings.now.domain.text ≡ Ok settings.now.domain.name }
     ensures written { IfOk result (λ bytes. PublicationDue settings.now zones.now
         (trie_verdict 32 tries.now.v4) (trie_verdict 128 tries.now.v6) (Ok bytes)) }
     ensures refused { IfErr result (ErrorIs (λ why. PublicationDue settings.now zones.now

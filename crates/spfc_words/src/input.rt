@@ -1,11 +1,11 @@
 //! The files that a job reads.
-ghost use Rattle.std.specs.Prelude.{◌≡◌, ◌++◌, List, Ok, true, false};
+ghost use Rattle.std.specs.Prelude.{◌≡◌, ◌++◌, List, map, Ok, OnOk, OnErr, true, false};
 ghost use Rattle.spfc_words.specs.declared.input.Input.{Input};
 ghost use Rattle.spfc_words.specs.Inputs as inputs;
-ghost use Rattle.spfc_words.specs.Inputs.{AreZoneInputs};
+ghost use Rattle.spfc_words.specs.Inputs.{AreZoneInputs, place_zone as input_of};
 ghost use Rattle.spfc_words.specs.Words.{texts};
 
-use crate::zone_word::{ZoneWord, read_zone_words};
+use crate::zone_word::{ZoneWord, ZoneWords, read_zone_words};
 use addr_bits::{Bytes, Items};
 use dns_name::Name;
 use std::alloc::{AllocError, Global};
@@ -43,7 +43,7 @@ pub struct Input {
 pub type Inputs = Items<Input>;
 
 /// Appends the zones that the words name: 1 to 64 words ORIGIN=FILE of different origins. `false` where these are no
-/// such words, and then the list stays as it was. Where there is no memory, some of the zones may stand in it.
+/// such words. Then the list stays as it was, and so it does where there is no memory.
 pub fn push_zone_words(
     alloc: Global,
     inputs: &mut Inputs,
@@ -54,14 +54,30 @@ pub fn push_zone_words(
         → (more : List Input) × (inputs.new ≡ inputs.old ++ more) × AreZoneInputs group (texts words.now) more }
     ensures none { result ≡ Ok false → (any : List Input) → ¬ AreZoneInputs group (texts words.now) any }
     ensures stays { result ≡ Ok false → inputs.new ≡ inputs.old }
+    ensures memory { OnErr result (inputs.new ≡ inputs.old) }
 {
     let Some(zones) = read_zone_words(alloc, words)? else {
         return Ok(false);
     };
+    let len = inputs.len();
+    match push_zones(inputs, group, zones) {
+        Ok(()) => Ok(true),
+        Err(AllocError) => {
+            inputs.truncate(len);
+            Err(AllocError)
+        }
+    }
+}
+
+/// Appends the zones, or the first of them.
+fn push_zones(inputs: &mut Inputs, group: Group, zones: ZoneWords) -> Result<(), AllocError>
+    ensures ok { OnOk result (inputs.new ≡ inputs.old ++ map (input_of group) zones) }
+    ensures err { OnErr result ((more : List Input) × (inputs.new ≡ inputs.old ++ more)) }
+{
     for zone in zones.into_vec() {
         inputs.push(place_zone(group, zone))?;
     }
-    Ok(true)
+    Ok(())
 }
 
 /// The input of a zone, in its group.

@@ -5,12 +5,12 @@ use Rattle.spfc_top.proofs.top.end.Goals as goal
 
 pub returns-in-Ok : goal.returns-in-Ok
 returns-in-Ok g c =
-    let answer = rw c.in-Ok-Writes.field-0-is at c.in-Ok-Writes.ensures in
+    let answer = rw c.in-Ok-Writes.field-0-is at c.in-Ok-Writes.ensures.answer in
     done c.in-Ok-Writes.output refl answer.0 answer.1 (rw c.as_slice.ensures at c.in-Ok.ensures.whole) refl
 
 pub returns-in-Ok-Writes : goal.returns-in-Ok-Writes
 returns-in-Ok-Writes g c =
-    unwritten c.in-Ok-Writes.output refl (rw c.in-Ok-Writes.field-0-is at c.in-Ok-Writes.ensures).0
+    unwritten c.in-Ok-Writes.output refl (rw c.in-Ok-Writes.field-0-is at c.in-Ok-Writes.ensures.answer).0
     (record {
       rose = c.in-Err-write_whole.ensures.cause.failed;
       part = rw c.as_slice.ensures at c.in-Err-write_whole.ensures.part;
@@ -19,12 +19,12 @@ returns-in-Ok-Writes g c =
 
 pub returns-in-Ok-write_whole : goal.returns-in-Ok-write_whole
 returns-in-Ok-write_whole g c =
-    told _ (rw c.in-Ok-Says.field-0-is at c.in-Ok-Says.ensures)
+    told _ (rw c.in-Ok-Says.field-0-is at c.in-Ok-Says.ensures.answer)
     (rw c.as_slice-in-Ok-Says.ensures at c.in-Ok-write_whole.ensures.whole) refl
 
 pub returns-in-Ok-Says : goal.returns-in-Ok-Says
 returns-in-Ok-Says g c =
-    untold _ _ refl (rw c.in-Ok-Says.field-0-is at c.in-Ok-Says.ensures)
+    untold _ _ refl (rw c.in-Ok-Says.field-0-is at c.in-Ok-Says.ensures.answer)
     (record {
       rose = c.in-Err-write_whole-2.ensures.cause.failed;
       part = rw c.as_slice-in-Ok-Says.ensures at c.in-Err-write_whole-2.ensures.part;
