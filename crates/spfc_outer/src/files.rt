@@ -47,8 +47,8 @@ impl From<AllocError> for OpenFault {
 
 /// Files that are chosen by name, one at a time, and read in pieces. A name is a row of bytes.
 pub trait Files {
-    /// What is seen from outside: whether the contents are told, the contents, the last fault, the faults, and whether no
-    /// call fails from here on.
+    /// What is seen from outside: whether the contents are told, the contents, the last fault, the faults, and whether
+    /// no call fails from here on.
     ghost seen: { Self → FilesSeen };
 
     /// Whether a file is chosen.
