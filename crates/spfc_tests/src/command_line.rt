@@ -30,7 +30,10 @@ const FLAGS: [(&str, Option<bool>); 4] = [
 fn a_flag_is_read(rt: HostRuntime) -> Result<(), Fail> {
     for (text, want) in &FLAGS {
         let words = words_of(rt.alloc(), text)?;
-        assert!(rt; read_flag(&[Row::Flag(TRACE)], &words, &TRACE) == *want, "at {text}");
+        assert!(rt;
+            read_flag(&[Row::Flag(TRACE)], &words, &TRACE) == *want,
+            "at {text}"
+        );
     }
     Ok(())
 }

@@ -55,7 +55,8 @@ fn a_table_is_written(rt: HostRuntime) -> Result<(), Fail> {
 }
 
 // The lines that `read_table` takes: those of a table may stand among others.
-const READ: &[u8] = b"$TTL 3600\n; row 0.0.0.0/0 1 2 1 2\n; rows\n; row 2001:db8::/32 255 3 20 1\n; fewest 10\n";
+const READ: &[u8] =
+    b"$TTL 3600\n; row 0.0.0.0/0 1 2 1 2\n; rows\n; row 2001:db8::/32 255 3 20 1\n; fewest 10\n";
 
 #[test]
 fn a_table_is_read(rt: HostRuntime) -> Result<(), Fail> {

@@ -112,7 +112,12 @@ fn hosts_are_matched(rt: HostRuntime) -> Result<(), Fail> {
     bodies.push(Body::Aaaa(1))?;
     let found = Answer::Found(bodies);
     let four = match4(rt.alloc(), &found, 24)?;
-    for (address, want) in [(0xc000_01ffu32, false), (0xc000_0200, true), (0xc000_02ff, true), (1, false)] {
+    for (address, want) in [
+        (0xc000_01ffu32, false),
+        (0xc000_0200, true),
+        (0xc000_02ff, true),
+        (1, false),
+    ] {
         assert!(rt; *four.at(address) == want, "at {address:x}");
     }
     let six = match6(rt.alloc(), &found, 127)?;
