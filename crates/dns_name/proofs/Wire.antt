@@ -1,5 +1,5 @@
 -- Labels, and the octets that hold them.
-use Rattle.std.proofs.Common.{◌≡◌, ℕ, zero, suc, ◌<◌, ◌≤◌, List, [], ◌∷◌, ◌++◌, length, take, drop, refl, sym, ap, ap₂, subst, ◌∙◌, arith, length-append}
+use Rattle.std.proofs.Common.{◌≡◌, ℕ, zero, suc, ◌<◌, ◌≤◌, ◌+◌, List, [], ◌∷◌, ◌++◌, length, take, drop, refl, sym, ap, ap₂, subst, ◌∙◌, arith, length-append}
 use Rattle.std.proofs.Math.Seq.{take-append_seam, drop-append_seam}
 use Rattle.std.specs.List.{AllByRecursion}
 use Rattle.dns_name.specs.Wire.{wire_form, label_and_rest, labels_in}
@@ -54,3 +54,9 @@ cut_wire wire octets len h is some = by (labels_in wire) h.labels (sym is ∙ h.
 pub length-wire_form : (name : List (List ℕ)) → length name < length (wire_form name)
 length-wire_form [] = omega arith
 length-wire_form (label ∷ name) = omega (arith, length-append label (wire_form name), length-wire_form name)
+
+-- a label, the octet of its length and the octets behind it are all
+pub length-split_wire : (wire label behind : List ℕ) → IsWire wire → IsWire behind → labels_in wire ≡ label ∷ labels_in behind
+    → length wire ≡ 1 + length label + length behind
+length-split_wire wire label behind w b e =
+    ap length (w.form ∙ ap wire_form e) ∙ omega (arith, length-append label (wire_form (labels_in behind)), ap length b.form)

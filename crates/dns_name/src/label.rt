@@ -72,11 +72,11 @@ pub(crate) fn split_label(wire: &[u8]) -> Option<(&[u8], &[u8])>
 }
 
 /// Appends octets, for which there is room.
-pub(crate) fn append(wire: &mut ArrayVec<u8, 255>, octets: &[u8])
-    requires { array_vec_len wire.old + length octets.now ≤ 255 }
-    ensures { wire.new.items ≡ wire.old.items ++ octets.now }
+pub(crate) fn append<const CAP: usize>(text: &mut ArrayVec<u8, CAP>, octets: &[u8])
+    requires { array_vec_len text.old + length octets.now ≤ CAP }
+    ensures { text.new.items ≡ text.old.items ++ octets.now }
 {
-    let Ok(()) = wire.try_extend_from_slice(octets) else {
+    let Ok(()) = text.try_extend_from_slice(octets) else {
         unreachable!()
     };
 }

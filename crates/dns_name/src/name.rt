@@ -210,21 +210,31 @@ impl Name {
     }
 
     /// The printed form: labels joined by dots without a final dot, the root as `.`, and bytes that are not printed as
-    /// themselves as `\` and three decimal digits.
+    /// themselves as `\` and three decimal digits. It takes no memory: four bytes for each octet on the wire are enough.
+    pub fn printed(&self) -> ArrayVec<u8, 1020>
+        ensures { result.items ≡ printed_name self.now }
+    {
+        let mut text = ArrayVec::new();
+        let Some((first, mut rest)) = split_label(&self.wire) else {
+            text.push(b'.');
+            return text;
+        };
+        write_label(&mut text, first);
+        while let Some((label, behind)) = split_label(rest) {
+            text.push(b'.');
+            write_label(&mut text, label);
+            rest = behind;
+        }
+        text
+    }
+
+    /// The printed form, as a text of its own.
     pub fn write_text(&self, alloc: Global) -> Result<Vec<u8>, AllocError>
         ensures { IfOk result (λ text. text.items ≡ printed_name self.now) }
     {
+        let printed = self.printed();
         let mut text = Vec::new(alloc);
-        let Some((first, mut rest)) = split_label(&self.wire) else {
-            text.push(b'.')?;
-            return Ok(text);
-        };
-        write_label(&mut text, first)?;
-        while let Some((label, behind)) = split_label(rest) {
-            text.push(b'.')?;
-            write_label(&mut text, label)?;
-            rest = behind;
-        }
+        text.extend_from_slice(&printed)?;
         Ok(text)
     }
 }

@@ -1,10 +1,11 @@
 //! The printed forms of bytes and labels.
-ghost use Rattle.std.specs.Prelude.{◌≡◌, ℕ, ◌<◌, List, [], ◌∷◌, ◌++◌, flat_map, MatchOption, IfOk};
+ghost use Rattle.std.specs.Prelude.{◌≡◌, ℕ, ◌<◌, ◌≤◌, ◌+◌, ◌*◌, List, [], ◌∷◌, ◌++◌, length, flat_map, MatchOption};
+ghost use Rattle.arrayvec.specs.ArrayVec.{array_vec_len};
 ghost use Rattle.std.specs.Char.{to_ascii_lowercase};
 ghost use Rattle.dns_name.specs.Printed.{printed_byte, escaped_byte, is_plain, ArePrintable};
 
+use crate::label::append;
 use arrayvec::ArrayVec;
-use std::alloc::AllocError;
 
 /// The bytes that have a meaning in a master file.
 const SPECIAL: &[u8] = b".\\\";()@$";
@@ -16,30 +17,36 @@ fn is_plain(byte: u8) -> bool
     byte.is_ascii_graphic() && !SPECIAL.contains(&byte)
 }
 
-/// Appends the printed form of a byte.
-fn write_byte(text: &mut Vec<u8>, byte: u8) -> Result<(), AllocError>
-    ensures { IfOk result (λ _. text.new.items ≡ text.old.items ++ printed_byte byte) }
+/// Appends the printed form of a byte, for which there is room.
+fn write_byte(text: &mut ArrayVec<u8, 1020>, byte: u8)
+    requires { array_vec_len text.old + 4 ≤ 1020 }
+    ensures printed { text.new.items ≡ text.old.items ++ printed_byte byte }
+    ensures bound { array_vec_len text.new ≤ array_vec_len text.old + 4 }
 {
     if is_plain(byte) {
-        text.push(byte)?;
-        return Ok(());
+        text.push(byte);
+        return;
     }
-    text.extend_from_slice(&[
-        b'\\',
-        b'0' + byte / 100,
-        b'0' + byte / 10 % 10,
-        b'0' + byte % 10,
-    ])
+    append(
+        text,
+        &[
+            b'\\',
+            b'0' + byte / 100,
+            b'0' + byte / 10 % 10,
+            b'0' + byte % 10,
+        ],
+    );
 }
 
-/// Appends the printed form of a label.
-pub(crate) fn write_label(text: &mut Vec<u8>, label: &[u8]) -> Result<(), AllocError>
-    ensures { IfOk result (λ _. text.new.items ≡ text.old.items ++ flat_map printed_byte label.now) }
+/// Appends the printed form of a label, for which there is room.
+pub(crate) fn write_label(text: &mut ArrayVec<u8, 1020>, label: &[u8])
+    requires { array_vec_len text.old + 4 * length label.now ≤ 1020 }
+    ensures printed { text.new.items ≡ text.old.items ++ flat_map printed_byte label.now }
+    ensures bound { array_vec_len text.new ≤ array_vec_len text.old + 4 * length label.now }
 {
     for octet in label {
-        write_byte(text, *octet)?;
+        write_byte(text, *octet);
     }
-    Ok(())
 }
 
 /// The byte that three decimal digits are, if they are one.

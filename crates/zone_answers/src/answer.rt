@@ -1,8 +1,9 @@
 //! Questions and answers.
-ghost use Rattle.std.specs.Prelude.{◌≡◌};
+ghost use Rattle.std.specs.Prelude.{◌≡◌, ◌≤◌, length};
 ghost use Rattle.zone_answers.specs.Answers.{answer_bodies};
 
 use addr_bits::{Family, Items};
+use arrayvec::ArrayVec;
 use dns_name::Name;
 use master_reader::Body;
 
@@ -17,6 +18,7 @@ pub enum QKind {
 
 impl QKind {
     ghost use Rattle.zone_answers.specs.Answers.{kind_in};
+    ghost use Rattle.zone_answers.specs.Questions.{kind_word};
 
     /// The kind of record that has the addresses of a family (RFC 1035, section 3.4.1, and RFC 3596, section 2.1).
     pub fn of_addresses(family: Family) -> QKind
@@ -27,6 +29,19 @@ impl QKind {
             Family::V6 => QKind::Aaaa,
         }
     }
+
+    /// The word of a kind of record (RFC 1035, section 3.2.2, and RFC 3596, section 2.1).
+    pub fn word(self) -> &'static str
+        ensures word { result.now ≡ kind_word self }
+        ensures short { length result.now ≤ 4 }
+    {
+        match self {
+            QKind::A => "A",
+            QKind::Aaaa => "AAAA",
+            QKind::Mx => "MX",
+            QKind::Txt => "TXT",
+        }
+    }
 }
 
 /// A name and what is asked of it.
@@ -34,6 +49,22 @@ impl QKind {
 pub struct Question {
     pub name: Name,
     pub kind: QKind,
+}
+
+impl Question {
+    ghost use Rattle.zone_answers.specs.Questions.{question_text};
+
+    /// The text of the question: the printed name, a space and the word of the kind. It takes no memory.
+    pub fn text(&self) -> ArrayVec<u8, 1025>
+        ensures { result.items ≡ question_text self.now }
+    {
+        let mut text = ArrayVec::new();
+        text.try_extend_from_slice(&self.name.printed()).unwrap();
+        text.push(b' ');
+        text.try_extend_from_slice(self.kind.word().as_bytes())
+            .unwrap();
+        text
+    }
 }
 
 /// Questions, in order.

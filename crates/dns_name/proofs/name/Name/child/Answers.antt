@@ -5,14 +5,14 @@ use Rattle.dns_name.proofs.Names.{IsChild, child_made}
 use Rattle.dns_name.proofs.Octets.{octets_from_fits}
 use Rattle.dns_name.proofs.name.Name.child.Goals as goal
 
-made : (c : goal.After-append) → IsChild c.args.label.now c.args.self.now c.append.new.wire.items
+made : (c : goal.After-append) → IsChild c.args.label.now c.args.self.now c.append.new.text.items
 made c =
     let name = c.args.self.now in
     let own : c.self.inside.wire.items ≡ wire_form name = c.self.invariant.1 ∙ ap wire_form c.self.view_is in
-    let wire : c.append.new.wire.items ≡ length c.args.label.now ∷ (lowercase_label c.args.label.now ++ wire_form name) =
+    let wire : c.append.new.text.items ≡ length c.args.label.now ∷ (lowercase_label c.args.label.now ++ wire_form name) =
     c.append.ensures ∙ ap₂ (λ (x y : List ℕ). x ++ y) (c.append_lowercase.ensures ∙ ap (λ (x : List ℕ). x ++ lowercase_label c.args.label.now) (c.push.ensures.items ∙ ap (λ (x : List ℕ). x ++ length c.args.label.now ∷ []) c.new-wire.ensures)) (c.deref.ensures.0 ∙ own)
     ∙ append_assoc (length c.args.label.now ∷ []) (lowercase_label c.args.label.now) (wire_form name) in
-    child_made c.args.label.now name c.append.new.wire.items c.in_ok-check_label.ensures (octets_from_fits c.args.label.now c.type_inv.label) (subst IsName c.self.view_is c.self.invariant.0)
+    child_made c.args.label.now name c.append.new.text.items c.in_ok-check_label.ensures (octets_from_fits c.args.label.now c.type_inv.label) (subst IsName c.self.view_is c.self.invariant.0)
     (omega (arith, c.if-label-len-gt-MAX_NAME.false, c.len.ensures.value, ap length own)) wire
 
 pub invariant_of-result : goal.invariant_of-result
