@@ -1,4 +1,7 @@
-pub mod Forms
-pub mod Reasons
 pub mod Certified
+pub mod Forms
 pub mod Laws
+pub mod Likeness
+pub mod Reading
+pub mod Reasons
+pub mod Steps
