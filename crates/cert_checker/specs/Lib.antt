@@ -1,5 +1,6 @@
 pub mod Certified
 pub mod Forms
+pub mod Judging
 pub mod Laws
 pub mod Likeness
 pub mod Reading

@@ -22,6 +22,12 @@ abbrev pub Differs : Verdict → Verdict → Bool → Type 0
 Differs v w true = v ≢ w
 Differs v w false = v ≡ w
 
+-- the least address where true stands
+pub record IsLeastTrue (bits : ℕ) (found : List (Cidr × Bool)) (a : ℕ) : Type 0 where
+  pub within : a < 2 ^ bits
+  pub here : value_at bits found a ≡ Some true
+  pub least : (b : ℕ) → b < a → value_at bits found b ≡ Some false
+
 -- the list gives each address of the family the verdict that stands there
 abbrev pub AreAlike : Family → (bits : ℕ) → List (Cidr × Verdict) → List FlatTerm → Type 0
 AreAlike f bits due list = (a : ℕ) → a < 2 ^ bits → value_at bits due a ≡ Some (first list (address_of f a))

@@ -21,10 +21,9 @@ use Rattle.policy_verdicts.specs.Policy.{IsLeastRefused, StandsBefore}
 use Rattle.bound_table.specs.Placed.{PlacedRow}
 use Rattle.bound_table.specs.Reading.{AreTable, IsMisspelled, lines_of}
 use Rattle.bound_table.specs.Rounds.{IsGoodAsPlaced, IsNamed}
-use Rattle.record_pack.specs.Records.{IsFittingCut}
 use Rattle.cert_checker.specs.declared.answer.No.{No}
 use Rattle.cert_checker.specs.declared.answer.No.TheVariants as no
-use Rattle.cert_checker.specs.Forms.{HasChainForm, ReadChain, TextsFit, name_at, terms_of}
+use Rattle.cert_checker.specs.Forms.{HasChainForm, IsRecordsFault, ReadChain, name_at, terms_of}
 
 -- ---- verdicts
 
@@ -78,16 +77,6 @@ IsTableFault bytes list line = IsMisspelled (lines_of bytes) line ⊎ IsBadTable
 -- RFC 7208, section 3.4: the other texts at the domain, over the zones, beside which the first record must fit
 abbrev pub others_at : List Zone → (domain : List ℕ) → ℕ
 others_at zones domain = other_text_of zones (name_at domain)
-
--- project's own choice: a cut of the list at the same names with fewer records fits, with the written texts
-abbrev pub HasShorterCut : (domain label : List ℕ) → (size others : ℕ) → List FlatTerm → (records : ℕ) → Type 0
-HasShorterCut domain label size others list records =
-    (ends : List ℕ) × IsFittingCut domain label size others list ends × (length ends < records)
-
--- a record does not fit, or fewer records would do
-abbrev pub IsRecordsFault : (domain label : List ℕ) → (size others : ℕ) → List Record → List FlatTerm → Type 0
-IsRecordsFault domain label size others records list =
-    ¬ TextsFit domain label size others 0 records ⊎ HasShorterCut domain label size others list (length records)
 
 -- ---- the reasons, in their order. Each is stated with all that the earlier ones leave
 

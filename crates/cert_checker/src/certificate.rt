@@ -5,7 +5,8 @@ ghost use Rattle.spf_macros.specs.Words as words;
 ghost use Rattle.cert_checker.specs.Certified.{IsCertified};
 ghost use Rattle.cert_checker.specs.Likeness.{AllAlike};
 ghost use Rattle.cert_checker.specs.Reasons.{HasTable, IsReason};
-ghost use Rattle.cert_checker.specs.Steps.{IsListNo, IsTableNo};
+ghost use Rattle.cert_checker.specs.Judging.{IsListNo};
+ghost use Rattle.cert_checker.specs.Steps.{IsTableNo};
 
 use crate::chain::read_chain;
 use crate::records::judge_records;

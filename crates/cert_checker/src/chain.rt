@@ -2,7 +2,7 @@
 ghost use Rattle.std.specs.Prelude.{◌≡◌, ◌++◌, ◌↔◌, List, ℕ, IsTrue, IfOk, decimal};
 ghost use Rattle.zone_writer.specs.Written.{record_owner};
 ghost use Rattle.cert_checker.specs.Forms.{HaveOwners};
-ghost use Rattle.cert_checker.specs.Steps.{IsChainAnswer, IsLabelAnswer};
+ghost use Rattle.cert_checker.specs.Judging.{IsChainAnswer, IsLabelAnswer};
 
 use crate::links::read_links;
 use dns_name::Name;
@@ -67,7 +67,7 @@ fn label_of(records: &[Record]) -> Option<&[u8]>
     ensures { (name : List (List ℕ)) → IsLabelAnswer name records.now result }
 {
     match records.get(1) {
-        Some(second) => second.owner.first_label()?.strip_suffix(b"1"),
+        Some(second) => second.owner.first_label()?.strip_suffix(b"1".as_slice()),
         None => Some(NO_LABEL),
     }
 }

@@ -1,12 +1,14 @@
 //! Reading the texts of records that lead from one to the next.
-ghost use Rattle.std.specs.Prelude.{◌≡◌, ◌++◌, ◌↔◌, not, IsTrue, IfOk, MatchOption, Some, option_map};
+ghost use Rattle.std.specs.Prelude.{◌≡◌, ◌≤◌, ◌∷◌, ◌↔◌, [], List, drop, length, not, IsTrue, IfOk, MatchOption, Some, option_map};
 ghost use Rattle.std.specs.List.{list_all};
 ghost use Rattle.spf_macros.specs.Grammar.{is_expand};
 ghost use Rattle.spf_model.specs.Judging as judging;
+ghost use Rattle.spf_macros.specs.declared.piece.Piece.{Piece as AnyPiece};
 ghost use Rattle.spf_grammar.specs.declared.policy.Policy.{Policy as AnyPolicy};
+ghost use Rattle.spf_grammar.specs.declared.policy.Term.TheVariants.{Redirect};
 ghost use Rattle.cert_checker.specs.Forms as forms;
 ghost use Rattle.cert_checker.specs.Forms.{HasPolicy, LeadsTo};
-ghost use Rattle.cert_checker.specs.Reading.{AreTaken, IsLinkedAnswer, IsOneAnswer};
+ghost use Rattle.cert_checker.specs.Reading.{AreTaken, GoesOn, IsLinkedAnswer, IsOneAnswer, IsPushed, owner_of};
 
 use addr_bits::Family;
 use dns_name::Name;
@@ -30,20 +32,33 @@ fn read_policy(alloc: Global, body: &Body) -> Result<Option<Policy>, AllocError>
     }
 }
 
-/// Appends the directives with networks and `all` (RFC 7208, sections 5.1 and 5.6) that the terms begin with. What is
-/// left of the terms begins with none.
-fn push_networks<'a>(list: &mut FlatList, terms: &'a [Term]) -> Result<&'a [Term], AllocError>
+/// Appends the flat term that a directive with a network or `all` is (RFC 7208, sections 5.1 and 5.6); false where the
+/// term is another one.
+fn push_term(list: &mut FlatList, term: &Term) -> Result<bool, AllocError>
+    ensures { IfOk result (IsPushed term.now list.old list.new) }
+{
+    let Term::Directive(verdict, mechanism) = term else {
+        return Ok(false);
+    };
+    let Some(net) = mechanism.net() else {
+        return Ok(false);
+    };
+    list.push(FlatTerm {
+        verdict: *verdict,
+        net,
+    })?;
+    Ok(true)
+}
+
+/// Appends the flat terms that the terms begin with. What is left of the terms begins with none.
+fn push_flat<'a>(list: &mut FlatList, terms: &'a [Term]) -> Result<&'a [Term], AllocError>
     ensures { IfOk result (λ rest. AreTaken terms.now rest.now list.old list.new) }
 {
     let mut rest = terms;
-    while let [Term::Directive(verdict, mechanism), behind @ ..] = rest {
-        let Some(net) = mechanism.net() else {
+    while let Some((term, behind)) = rest.split_first() {
+        if !push_term(list, term)? {
             return Ok(rest);
-        };
-        list.push(FlatTerm {
-            verdict: *verdict,
-            net,
-        })?;
+        }
         rest = behind;
     }
     Ok(rest)
@@ -103,31 +118,72 @@ fn leads_to(alloc: Global, spec: &MacroText, name: &Name) -> Result<bool, AllocE
     }
 }
 
-/// Whether a record is one of a chain, before this one or as the last. Its terms are appended.
+/// The domain-spec of the redirect that the terms are (RFC 7208, section 6.1), if they are one.
+fn only_redirect(terms: &[Term]) -> Option<&MacroText>
+    ensures { MatchOption result ((spec : List AnyPiece) → ¬ (terms.now ≡ Redirect spec ∷ []))
+        (λ spec. terms.now ≡ Redirect spec.now ∷ []) }
+{
+    match terms {
+        [Term::Redirect(spec)] => Some(spec),
+        _ => None,
+    }
+}
+
+/// Whether a record with these flat terms, and others behind them, is one of a chain: before a record with this name, or
+/// the last one.
+fn goes_on(
+    alloc: Global,
+    flat: &[FlatTerm],
+    rest: &[Term],
+    next: Option<&Name>,
+) -> Result<bool, AllocError>
+    ensures { IfOk result (λ goes. IsTrue goes ↔ GoesOn flat.now rest.now (option_map (λ name. name.now) next.entry)) }
+{
+    let Some(next) = next else {
+        return Ok(rest.is_empty() && has_all_last(flat));
+    };
+    let Some(spec) = only_redirect(rest) else {
+        return Ok(false);
+    };
+    if has_all(flat) {
+        return Ok(false);
+    }
+    leads_to(alloc, spec, next)
+}
+
+/// The terms of a list from a place on.
+fn terms_from(list: &FlatList, from: usize) -> &[FlatTerm]
+    requires { from ≤ length list.now }
+    ensures { result.now ≡ drop from list.now }
+{
+    &list.as_slice()[from..]
+}
+
+/// Whether a record is one of a chain, before a record with this name or as the last. Its flat terms are appended.
 fn read_link(
     alloc: Global,
-    candidate: &Record,
-    next: Option<&Record>,
+    body: &Body,
+    next: Option<&Name>,
     list: &mut FlatList,
 ) -> Result<bool, AllocError>
-    ensures { IfOk result (IsOneAnswer candidate.now (option_map (λ r. r.now) next.entry) list.old list.new) }
+    ensures { IfOk result (IsOneAnswer body.now (option_map (λ name. name.now) next.entry) list.old list.new) }
 {
-    let Some(policy) = read_policy(alloc, &candidate.body)? else {
+    let Some(policy) = read_policy(alloc, body)? else {
         return Ok(false);
     };
     let from = list.len();
-    let rest = push_networks(list, policy.terms.as_slice())?;
-    let terms = &list.as_slice()[from..];
-    let Some(next) = next else {
-        return Ok(rest.is_empty() && has_all_last(terms));
-    };
-    let [Term::Redirect(spec)] = rest else {
-        return Ok(false);
-    };
-    if has_all(terms) {
-        return Ok(false);
+    let rest = push_flat(list, policy.terms.as_slice())?;
+    goes_on(alloc, terms_from(list, from), rest, next)
+}
+
+/// The name of the first record, if there is one.
+fn first_owner(records: &[Record]) -> Option<&Name>
+    ensures { option_map (λ name. name.now) result ≡ owner_of records.now }
+{
+    match records.first() {
+        Some(first) => Some(&first.owner),
+        None => None,
     }
-    leads_to(alloc, spec, &next.owner)
 }
 
 /// Whether the records, one or more, lead from each to the next (RFC 7208, section 6.1). Their terms are appended.
@@ -138,10 +194,10 @@ pub(crate) fn read_links(
 ) -> Result<bool, AllocError>
     ensures { IfOk result (IsLinkedAnswer records.now list.old list.new) }
 {
-    let [record, behind @ ..] = records else {
+    let Some((first, behind)) = records.split_first() else {
         return Ok(false);
     };
-    if !read_link(alloc, record, behind.first(), list)? {
+    if !read_link(alloc, &first.body, first_owner(behind), list)? {
         return Ok(false);
     }
     if behind.is_empty() {

@@ -3,7 +3,7 @@ ghost use Rattle.std.specs.Prelude.{◌≤◌, ◌↔◌, length, IsTrue, IfOk, 
 ghost use Rattle.std.specs.List.{concat};
 ghost use Rattle.spf_model.specs.Check.{text_of};
 ghost use Rattle.cert_checker.specs.Forms.{TextFits, TextsFit};
-ghost use Rattle.cert_checker.specs.Steps.{AreFewest, IsRecordsNo, IsShorterAnswer};
+ghost use Rattle.cert_checker.specs.Judging.{AreFewest, IsRecordsNo, IsShorterAnswer};
 
 use crate::No;
 use addr_bits::Bytes;

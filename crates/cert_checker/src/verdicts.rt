@@ -1,9 +1,9 @@
 //! Whether a list gives each address its verdict.
-ghost use Rattle.std.specs.Prelude.{◌≡◌, ◌≢◌, ◌<◌, ◌^◌, ℕ, IfOk, IfSome, IfNone, IsSomeAnd, MatchBool, MatchOption, OnOk, Some, if◌then◌else◌};
+ghost use Rattle.std.specs.Prelude.{◌≡◌, ◌≢◌, ◌<◌, ◌^◌, ℕ, false, IfOk, IfSome, IfNone, IsSomeAnd, MatchBool, MatchOption, OnOk, Some, if◌then◌else◌};
 ghost use Rattle.addr_bits.specs.Address.{address_of};
 ghost use Rattle.prefix_trie.specs.Leaves.{CoverInOrder, value_at};
 ghost use Rattle.spf_grammar.specs.Flat.{covers, first};
-ghost use Rattle.cert_checker.specs.Likeness.{AllAlike, AreAlike, Differs, IsFirstUnlike, IsLeastUnlike, is_in_part};
+ghost use Rattle.cert_checker.specs.Likeness.{AllAlike, AreAlike, Differs, IsFirstUnlike, IsLeastTrue, IsLeastUnlike, is_in_part};
 
 use addr_bits::{Address, Prefix, Width};
 use prefix_trie::TrieMap;
@@ -82,6 +82,14 @@ fn differences<W: Width>(
     TrieMap::combine(alloc, due, given, |one, other| Ok(differ(*one, *other)))
 }
 
+/// The least address where the trie has true.
+fn least_true<W: Width>(found: &TrieMap<W, bool>) -> Option<W>
+    ensures found { IfSome result (λ a. IsLeastTrue W.BITS found.now (W.number a)) }
+    ensures none { IfNone result ((a : ℕ) → a < 2 ^ W.BITS → value_at W.BITS found.now a ≡ Some false) }
+{
+    found.least_where(|value| *value)
+}
+
 /// The least address of a family to which the list gives another verdict than stands there.
 fn least_unlike<W: NetworkFamily>(
     alloc: Global,
@@ -95,7 +103,7 @@ fn least_unlike<W: NetworkFamily>(
 {
     let given = first_verdicts(alloc, list)?;
     let found = differences(alloc, due, &given)?;
-    Ok(found.least_where(|other| *other))
+    Ok(least_true(&found))
 }
 
 /// The least address, those of IPv4 first, to which the list gives another verdict than stands there.
