@@ -1,6 +1,8 @@
 -- The names of the records of a chain, and what is left of them.
 use Rattle.std.proofs.Common.{◌≡◌, ℕ, ◌+◌, ◌-◌, ◌<◌, ◌≤◌, ◌==◌, Bool, true, false, cond, IsTrue, List, [], ◌∷◌, ◌++◌, length, drop, get_or, refl, sym, ap, ◌∙◌, subst, arith, add-one, drop-cons, drop_of_length-le, Option, Some, None, ◌↔◌}
 use Rattle.std.specs.Prelude.{decimal, slice_get}
+use Rattle.std.proofs.lemmas.Fmt.{decimal_digit}
+use Rattle.std.proofs.lemmas.List.{append_cancel_right}
 use Rattle.std.specs.List.{concat}
 use Rattle.std.specs.Borrow.{Bor}
 use Rattle.dns_name.specs.Name.{first_label_of, parent_of}
@@ -63,3 +65,40 @@ fit_not domain label size others records rest behind r number is none by all = n
 
 pub fit_all : (domain label : List ℕ) (size others : ℕ) (records rest : List Record) (number : ℕ) → rest ≡ [] → FitBy domain label size others records number rest → TextsFit domain label size others 0 records
 fit_all domain label size others records rest number none by = by.1 (subst (TextsFit domain label size others number) (sym none) tt)
+
+-- ---- labels
+
+some_same : {X : Type 0} {x y : X} → Some x ≡ Some y → x ≡ y
+some_same e = cc
+
+some_none : {X : Type 0} {x : X} → Some x ≡ None → ⊥
+some_none e = cc
+
+one_is : decimal 1 ≡ 49 ∷ []
+one_is = decimal_digit 1 (omega arith)
+
+second_label : (name : Labels) (label first : List ℕ) (records : List Record) (second : Record) → slice_get records 1 ≡ Some second → HaveOwners name label 0 records
+    → first_label_of second.owner ≡ Some (label ++ 49 ∷ [])
+second_label name label first [] second is own = absurd (some_none (sym is))
+second_label name label first (r ∷ []) second is own = absurd (some_none (sym is))
+second_label name label first (r ∷ s ∷ records) second is own =
+    ap (λ (x : Record). first_label_of x.owner) (sym (some_same is)) ∙ ap first_label_of own.1.0 ∙ ap (λ ds. Some (label ++ ds)) one_is
+
+pub label_single : (name : Labels) (records : List Record) → slice_get records 1 ≡ None → (label : List ℕ) → IsTrue (is_label label) → HaveOwners name label 0 records
+    → IsTrue (is_label (95 ∷ [])) × HaveOwners name (95 ∷ []) 0 records
+label_single name [] none label form own = (refl, tt)
+label_single name (r ∷ []) none label form own = (refl, (own.0, tt))
+label_single name (r ∷ s ∷ records) none label form own = absurd (some_none none)
+
+pub label_second : (name : Labels) (records : List Record) (second : Record) (first found : List ℕ) → slice_get records 1 ≡ Some second → first_label_of second.owner ≡ Some first
+    → first ≡ found ++ 49 ∷ [] → (label : List ℕ) → IsTrue (is_label label) → HaveOwners name label 0 records → IsTrue (is_label found) × HaveOwners name found 0 records
+label_second name records second first found is told cut label form own =
+    let same : label ≡ found = append_cancel_right label found (49 ∷ []) (some_same (sym (second_label name label first records second is own) ∙ told) ∙ cut) in
+    (subst (λ l. IsTrue (is_label l)) same form, subst (λ l. HaveOwners name l 0 records) same own)
+
+pub no_cut : (name : Labels) (records : List Record) (second : Record) (first : List ℕ) → slice_get records 1 ≡ Some second → first_label_of second.owner ≡ Some first
+    → ((front : List ℕ) → ¬ (first ≡ front ++ 49 ∷ [])) → (label : List ℕ) → HaveOwners name label 0 records → ⊥
+no_cut name records second first is told none label own = none label (some_same (sym told ∙ second_label name label first records second is own))
+
+pub no_first : (name : Labels) (records : List Record) (second : Record) → slice_get records 1 ≡ Some second → first_label_of second.owner ≡ None → (label : List ℕ) → HaveOwners name label 0 records → ⊥
+no_first name records second is told label own = some_none (sym (second_label name label [] records second is own) ∙ told)

@@ -211,7 +211,7 @@ taken_once (s ∷ a) (t ∷ b) x y hx hy e =
     let rest = taken_once a b x y hx hy same.2 in
     (ap₂ (λ (u : FlatTerm) (us : List FlatTerm). u ∷ us) (term_same s t same.0 same.1) rest.0, rest.1)
 
-redirect_otherwise : (redirect : Option (List Piece)) → BeginOtherwise (redirect_terms redirect)
+pub redirect_otherwise : (redirect : Option (List Piece)) → BeginOtherwise (redirect_terms redirect)
 redirect_otherwise None = tt
 redirect_otherwise (Some spec) = refl
 

@@ -86,7 +86,10 @@ pub(crate) fn read_chain<'a>(
     let Some(label) = label_of(records) else {
         return Ok(None);
     };
-    if !is_label(label) || !have_owners(records, name, label) {
+    if !is_label(label) {
+        return Ok(None);
+    }
+    if !have_owners(records, name, label) {
         return Ok(None);
     }
     let mut list = FlatList::new(alloc);
