@@ -1,0 +1,12 @@
+//! Whether a fragment, whoever wrote it, says the same as a policy, by the fewest terms and in the fewest records.
+#![tactic(auto)]
+
+mod answer;
+mod certificate;
+mod chain;
+mod links;
+mod records;
+mod verdicts;
+
+pub use answer::{No, Yes};
+pub use certificate::verify;
