@@ -10,6 +10,7 @@ use Rattle.bound_table.specs.Judging.{prefixes_of, AgreeAt}
 use Rattle.bound_table.specs.Laws.{OneLaterRound, CheckedTableBounds}
 use Rattle.bound_table.specs.Placed.{PlacedRow, HasRisingLines, line_at, rows_of}
 use Rattle.bound_table.specs.Rounds.{places, IsFirst, IsGoodAsPlaced, IsMiscounted, IsMisplaced, IsNamed}
+use Rattle.bound_table.proofs.NumberLemmas.{length-prefixes}
 use Rattle.bound_table.proofs.PlaceLemmas.{all_in_order, at_place, below_last, found, line_is, line_past, InPlace}
 
 -- a row and its prefix stand at the same place
@@ -17,10 +18,6 @@ agree_self : (rows : List PlacedRow) (i : ℕ) → i < length rows → AgreeAt r
 agree_self [] i h = absurd (omega arith)
 agree_self (x ∷ rows) zero h = (x, refl, refl)
 agree_self (x ∷ rows) (suc i) h = agree_self rows i (omega arith)
-
-length-prefixes : (rows : List PlacedRow) → length (prefixes_of rows) ≡ length rows
-length-prefixes [] = refl
-length-prefixes (x ∷ rows) = ap suc (length-prefixes rows)
 
 -- all rows of a good table stand where they must
 in_place : (v4 v6 : ℕ → Verdict) (rows4 rows6 : List PlacedRow) (total last : ℕ) → HasRisingLines rows4 rows6 last → IsGoodAsPlaced v4 v6 rows4 rows6 total

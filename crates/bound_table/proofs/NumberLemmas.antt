@@ -53,7 +53,7 @@ whole_rule a b x y c r xs ys h =
 
 -- ---- the rows of a mixed prefix
 
-length-prefixes : (rows : List PlacedRow) → length (prefixes_of rows) ≡ length rows
+pub length-prefixes : (rows : List PlacedRow) → length (prefixes_of rows) ≡ length rows
 length-prefixes [] = refl
 length-prefixes (x ∷ rows) = ap suc (length-prefixes rows)
 

@@ -1,5 +1,6 @@
 //! What a good table shows.
-ghost use Rattle.bound_table.specs.Laws.{CheckedTableBounds, OneFirstRound, OneLaterRound, OneTable, OneText, WrittenIsRead};
+ghost use Rattle.bound_table.specs.Laws.{CheckedTableBounds, OneFirstRound, OneLaterRound};
+ghost use Rattle.bound_table.specs.Laws.{OneTable, OneText, WrittenIsRead};
 ghost use Rattle.fewest_terms.specs.Tables.{TableBounds, NeedRowsAreGood};
 
 /// The total of a good table, whoever wrote it, is at most the length of each list with the same verdicts; and the
@@ -19,8 +20,8 @@ pub fn one_later_round()
     ensures { OneLaterRound }
 {}
 
-/// Whoever wrote the lines: where they are a table, and it is good by the verdicts, each list with these verdicts has at
-/// least as many terms as the total says.
+/// Whoever wrote the lines: where they are a table, and it is good by the verdicts, each list with these verdicts has
+/// at least as many terms as the total says.
 pub fn checked_table_bounds()
     ensures { CheckedTableBounds }
 {}
