@@ -8,3 +8,4 @@ pub mod PlaceLemmas
 pub mod ReadBack
 pub mod Rising
 pub mod RowLemmas
+pub mod WrittenNeeds

@@ -10,6 +10,8 @@ use Rattle.spf_grammar.specs.declared.flat.FlatTerm.{FlatTerm}
 use Rattle.spf_grammar.specs.declared.verdict.Verdict.{Verdict}
 use Rattle.spf_grammar.specs.Lists.{IsSame}
 use Rattle.fewest_terms.specs.Row.{NeedRow}
+use Rattle.fewest_terms.specs.Tables.{need_rows}
+use Rattle.fewest_terms.specs.Totals.{total as least_total}
 use Rattle.bound_table.specs.Lines.{table_text}
 use Rattle.bound_table.specs.Parts.{AreSmall}
 use Rattle.bound_table.specs.Placed.{placed_from, PlacedRow, HasRisingLines}
@@ -49,6 +51,21 @@ WrittenIsRead =
     → let first : ℕ = length (lines_of front) + 1 in
     AreTable (lines_of (front ++ table_text rows4 rows6 total))
     (placed_from first rows4) (placed_from (first + length rows4) rows6) total (first + length rows4 + length rows6)
+
+-- the rows of the needs, so written with the total of the needs, are read as a good table, where no number is too large
+abbrev pub WrittenNeedsAreGood : Type 0
+WrittenNeedsAreGood =
+    (front : List ℕ) (v4 v6 : ℕ → Verdict)
+    → EndsLine front → list_any is_table_line (lines_of front) ≡ false
+    → let rows4 : List NeedRow = need_rows 32 v4 32 0 in
+    let rows6 : List NeedRow = need_rows 128 v6 128 0 in
+    ((row : NeedRow) → Contains rows4 row → AreSmall row.needs)
+    → ((row : NeedRow) → Contains rows6 row → AreSmall row.needs) → least_total v4 v6 < 2 ^ 32
+    → let first : ℕ = length (lines_of front) + 1 in
+    AreTable (lines_of (front ++ table_text rows4 rows6 (least_total v4 v6)))
+    (placed_from first rows4) (placed_from (first + length rows4) rows6) (least_total v4 v6)
+    (first + length rows4 + length rows6)
+    × IsGoodAsPlaced v4 v6 (placed_from first rows4) (placed_from (first + length rows4) rows6) (least_total v4 v6)
 
 -- lines are the table of at most one list of rows for each family, and of one total
 abbrev pub OneTable : Type 0

@@ -1,6 +1,6 @@
 //! What a good table shows.
 ghost use Rattle.bound_table.specs.Laws.{CheckedTableBounds, OneFirstRound, OneLaterRound};
-ghost use Rattle.bound_table.specs.Laws.{OneTable, OneText, WrittenIsRead};
+ghost use Rattle.bound_table.specs.Laws.{OneTable, OneText, WrittenIsRead, WrittenNeedsAreGood};
 ghost use Rattle.fewest_terms.specs.Tables.{TableBounds, NeedRowsAreGood};
 
 /// The total of a good table, whoever wrote it, is at most the length of each list with the same verdicts; and the
@@ -27,9 +27,11 @@ pub fn checked_table_bounds()
 {}
 
 /// A written table is read back: behind whole lines that belong to no table it is the table of its rows, in the lines
-/// that follow, with its total.
+/// that follow, with its total. And the rows and the total of the needs are read as a good table, where no number is
+/// above 4,294,967,295.
 pub fn written_is_read()
-    ensures { WrittenIsRead }
+    ensures written { WrittenIsRead }
+    ensures needs { WrittenNeedsAreGood }
 {}
 
 /// Lines are the table of one list of rows for each family at most, and of one total; and two tables with the same text
