@@ -1,5 +1,5 @@
 -- The rows of the needs are written and read as a good table.
-use Rattle.std.proofs.Common.{◌≡◌, ℕ, zero, suc, ◌+◌, ◌*◌, ◌<◌, ◌≤◌, ◌^◌, true, false, List, [], ◌∷◌, ◌++◌, length, refl, sym, ◌∙◌, ap, subst, ◌⊎◌, inl, inr, arith, le_refl, lit≤}
+use Rattle.std.proofs.Common.{◌≡◌, ℕ, zero, suc, ◌+◌, ◌*◌, ◌<◌, ◌≤◌, ◌^◌, List, [], ◌∷◌, ◌++◌, length, sym, ap, subst, inl, inr, arith, le_refl, lit≤}
 use Rattle.std.proofs.lemmas.Bool.{cases_Bool}
 use Rattle.std.proofs.lemmas.List.Elements.{Contains-append_cases, Contains-append_right}
 use Rattle.std.specs.List.{Contains}
@@ -9,15 +9,13 @@ use Rattle.spf_grammar.specs.declared.verdict.Verdict.{Verdict}
 use Rattle.fewest_terms.specs.Needs.{is_mixed}
 use Rattle.fewest_terms.specs.Row.{NeedRow}
 use Rattle.fewest_terms.specs.Tables.{need_rows, needs_of, IsGoodTable}
-use Rattle.fewest_terms.specs.Totals.{total as least_total, need_of_both, least_with_all}
+use Rattle.fewest_terms.specs.Totals.{total as least_total}
 use Rattle.fewest_terms.proofs.Mixed.{one-plain}
 use Rattle.fewest_terms.proofs.TableLemmas.{need_rows-mixed, need_rows-plain, need_rows-good}
 use Rattle.fewest_terms.proofs.TrieLeaves.{lowest-both, lowest-next, prefix_of-IsCidr}
 use Rattle.bound_table.specs.Laws.{WrittenNeedsAreGood}
-use Rattle.bound_table.specs.Parts.{AreSmall}
 use Rattle.bound_table.specs.Placed.{placed_from, rows_of, PlacedRow}
 use Rattle.bound_table.specs.Reading.{lines_of}
-use Rattle.bound_table.specs.Rounds.{IsGoodAsPlaced}
 use Rattle.bound_table.proofs.ReadBack.{placed-rows, written_is_read}
 use Rattle.bound_table.proofs.Rising.{first_or_other}
 
