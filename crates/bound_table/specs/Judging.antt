@@ -1,5 +1,5 @@
 -- What the parts of the later rounds answer: the project's own choice.
-use Rattle.std.specs.Prelude.{ℕ, ◌≡◌, ◌+◌, ◌-◌, ◌<◌, ◌≤◌, ◌^◌, List, ◌∷◌, ◌++◌, map, drop, Option, Some, None}
+use Rattle.std.specs.Prelude.{ℕ, ◌≡◌, ◌-◌, ◌<◌, ◌≤◌, ◌^◌, List, ◌∷◌, ◌++◌, map, drop, Option, Some, None}
 use Rattle.std.specs.List.{Contains, slice_get}
 use Rattle.addr_bits.specs.Prefix.{Cidr}
 use Rattle.spf_grammar.specs.declared.verdict.Verdict.{Verdict}
@@ -59,12 +59,13 @@ IsFirstWrong w v rows from till (Some line) =
     (at : ℕ) × (from ≤ at) × (at < till) × WrongAt w v rows at line
     × ((other : ℕ) → from ≤ other → other < at → RightAt w v rows other)
 
--- what belongs to the prefix of this length that begins at a leaf: its mixed prefixes, and what rows claim that it needs
+-- what belongs to the prefix of this length that begins at a leaf: its mixed prefixes, and what rows claim it needs
 abbrev pub mixed_at : (w : ℕ) → List (Cidr × Verdict) → (from len : ℕ) → List Cidr
 mixed_at w leaves from len = mixed_prefixes w (verdict_at w leaves) (w - len) (bits_at w leaves from len)
 
 abbrev pub claimed_at : (w : ℕ) → List (Cidr × Verdict) → (from len : ℕ) → List PlacedRow → Verdict → ℕ
-claimed_at w leaves from len rows c = claimed (verdict_at w leaves) (w - len) (bits_at w leaves from len) (rows_of rows) c
+claimed_at w leaves from len rows c =
+    claimed (verdict_at w leaves) (w - len) (bits_at w leaves from len) (rows_of rows) c
 
 -- the rows from a place on begin with those of the prefix
 abbrev pub RowsBeginAt : (w : ℕ) → List (Cidr × Verdict) → (from len : ℕ) → List PlacedRow → ℕ → Type 0

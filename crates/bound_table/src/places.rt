@@ -36,8 +36,8 @@ fn agree<W: Width>(rows: &[LineRow<W>], mixed: &[Prefix<W>], at: usize) -> bool
     }
 }
 
-/// The first table line that is not the one which must stand there: the rows of IPv4 are those of its mixed prefixes, in
-/// their order, those of IPv6 follow, and the total is the last line.
+/// The first table line that is not the one which must stand there: the rows of IPv4 are those of its mixed prefixes,
+/// in their order, those of IPv6 follow, and the total is the last line.
 pub(crate) fn misplaced_line(
     t: &Table,
     mixed4: &[Prefix<u32>],

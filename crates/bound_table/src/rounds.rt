@@ -35,9 +35,10 @@ fn check_by_leaves(
     }
 }
 
-/// Judges a table of `read_table` by the verdicts that it is to be a table of: the second and the third of three rounds.
-/// The second judges that the row lines are those of the mixed prefixes, in their order, and the third their numbers. The
-/// work grows with the rows and the leaves.
+/// Judges a table of `read_table` by the verdicts that it is to be a table of: the second and the third of three
+/// rounds. The second judges that the row lines are those of the mixed prefixes, in their order, and that the line of
+/// the total follows them; the third judges their numbers. `NotTable` names the first line at fault of the first round
+/// that finds one. The work grows with the rows and the leaves.
 pub fn check_table(
     alloc: Global,
     t: &Table,

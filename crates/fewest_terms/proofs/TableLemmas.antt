@@ -74,7 +74,7 @@ KeepRowRule-drop w v zero rows h = h
 KeepRowRule-drop w v (suc j) [] h = h
 KeepRowRule-drop w v (suc j) (row ∷ rows) h = KeepRowRule-drop w v j rows h.1
 
-pub map-drop : (j : ℕ) (rows : List NeedRow) → map (λ r. r.prefix) (drop j rows) ≡ drop j (map (λ r. r.prefix) rows)
+map-drop : (j : ℕ) (rows : List NeedRow) → map (λ r. r.prefix) (drop j rows) ≡ drop j (map (λ r. r.prefix) rows)
 map-drop zero rows = refl
 map-drop (suc j) [] = refl
 map-drop (suc j) (row ∷ rows) = map-drop j rows
