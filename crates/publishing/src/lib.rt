@@ -11,4 +11,4 @@ mod verdicts;
 pub use laws::{due_is_best, one_publication};
 pub use policy::publish_policy;
 pub use publication::publish;
-pub use settings::{ChainSettings, LABEL, SIZE, TTL, read_settings};
+pub use settings::{ChainSettings, LABEL, TTL, read_settings};
