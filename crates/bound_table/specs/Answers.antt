@@ -7,6 +7,8 @@ use Rattle.bound_table.specs.declared.table.Table.{Table}
 use Rattle.bound_table.specs.declared.table.TableFault.{TableFault}
 use Rattle.bound_table.specs.declared.table.TableFault.TheVariants.{NotTable, Memory}
 use Rattle.bound_table.specs.Placed.{PlacedRow}
+use Rattle.spf_grammar.specs.declared.verdict.Verdict.{Verdict}
+use Rattle.bound_table.specs.Rounds.{IsGoodAsPlaced, IsNamed}
 use Rattle.bound_table.specs.Reading.{is_table_line, AreTable, HaveRows, IsMisspelled, SpellsNothing, SpellsRow, SpellsTotal}
 
 -- the table of the lines, or the line that the first round names, or no memory
@@ -34,3 +36,9 @@ IsPushed f line text old new (Ok true) =
     (row : NeedRow) × SpellsRow f text row × (new ≡ old ++ record { line = line; row = row } ∷ [])
 IsPushed f line text old new (Ok false) = ((row : NeedRow) → ¬ SpellsRow f text row) × (new ≡ old)
 IsPushed f line text old new (Err _) = Unit {0}
+
+-- the table is good, or the line that the later rounds name, or no memory
+abbrev pub IsCheckAnswer : (v4 v6 : ℕ → Verdict) → Table → Result Unit TableFault → Type 0
+IsCheckAnswer v4 v6 t (Ok _) = IsGoodAsPlaced v4 v6 t.rows4 t.rows6 t.total
+IsCheckAnswer v4 v6 t (Err (NotTable line)) = IsNamed v4 v6 t.rows4 t.rows6 t.total t.last line
+IsCheckAnswer v4 v6 t (Err Memory) = Unit {0}

@@ -4,3 +4,4 @@ pub mod Lines
 pub mod Parts
 pub mod Placed
 pub mod Reading
+pub mod Rounds

@@ -7,7 +7,7 @@ mod line;
 mod lines;
 mod table;
 
-pub use check::check_row;
+pub use check::{check_row, check_table};
 pub use laws::{one_first_round, table_bounds};
 pub use lines::{append_table, write_table};
 pub use table::{LineRow, LineRows, Table, TableFault, read_table};

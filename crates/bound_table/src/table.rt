@@ -1,8 +1,9 @@
 //! Reading the table of a file.
-ghost use Rattle.std.specs.Prelude.{◌≡◌, ◌∷◌, ◌++◌, ◌+◌, ◌<◌, ◌≢◌, [], length, IsTrue, List, ℕ};
+ghost use Rattle.std.specs.Prelude.{◌≡◌, ◌∷◌, ◌++◌, ◌+◌, ◌<◌, ◌≢◌, [], length, IsTrue, List, ℕ, IfOk};
 ghost use Rattle.std.specs.List.{list_any};
 ghost use Rattle.bound_table.specs.Reading.{is_table_line as belongs, lines_of};
 ghost use Rattle.bound_table.specs.Answers.{IsPushed, IsStep, IsTableAnswer};
+ghost use Rattle.bound_table.specs.Placed.{HasRisingLines};
 
 use crate::line::{read_row, read_total, split_before};
 use addr_bits::{AddressFamily, Items, Width};
@@ -152,7 +153,8 @@ fn read_step(
 /// The table of a file: the first of three rounds, which judges how its lines are spelled, and that one line for the
 /// total stands last. The work grows with the bytes.
 pub fn read_table(alloc: Global, bytes: &[u8]) -> Result<Table, TableFault>
-    ensures { IsTableAnswer (lines_of bytes.now) result }
+    ensures table { IsTableAnswer (lines_of bytes.now) result }
+    ensures rising { IfOk result (λ t. HasRisingLines t.rows4 t.rows6 t.last) }
 {
     let mut rows4 = LineRows::new(alloc);
     let mut rows6 = LineRows::new(alloc);

@@ -90,13 +90,13 @@ rising (e ∷ f ∷ entries) h sorted = (
 in_one : {X : Type 0} (x y : X) → Contains (x ∷ []) y → x ≡ y
 in_one x y h = elim (Contains-push_cases [] x y h) [ inl none ↦ absurd (omega (arith, none.1)) | inr same ↦ same ]
 
-in_cons : {X : Type 0} (x y : X) (xs : List X) → Contains (x ∷ xs) y → (x ≡ y) ⊎ Contains xs y
+pub in_cons : {X : Type 0} (x y : X) (xs : List X) → Contains (x ∷ xs) y → (x ≡ y) ⊎ Contains xs y
 in_cons x y xs h = elim (Contains-append_cases (x ∷ []) xs y h) [ inl here ↦ inl (in_one x y here) | inr there ↦ inr there ]
 
-at_front : {X : Type 0} (x y : X) (xs : List X) → x ≡ y → Contains (x ∷ xs) y
+pub at_front : {X : Type 0} (x y : X) (xs : List X) → x ≡ y → Contains (x ∷ xs) y
 at_front x y xs e = Contains-append_left (x ∷ []) xs y (subst (λ z. Contains (x ∷ []) z) e (Contains-push [] x))
 
-behind : {X : Type 0} (x y : X) (xs : List X) → Contains xs y → Contains (x ∷ xs) y
+pub behind : {X : Type 0} (x y : X) (xs : List X) → Contains xs y → Contains (x ∷ xs) y
 behind x y xs h = Contains-append_right (x ∷ []) xs y h
 
 -- where the keys are equal the question is the same, wherever the new one goes

@@ -1,0 +1,4 @@
+pub mod Forms
+pub mod Reasons
+pub mod Certified
+pub mod Laws
