@@ -65,17 +65,17 @@ no_memory n why is e = error_memory (sym is ∙ ap refused_by e)
 
 one_denial : (job : Verify) (loaded : Loaded) (a b : Refusal) → IsDenied job loaded a → IsDenied job loaded b → a ≡ b
 one_denial job loaded a b x y =
-    let same : x.no ≡ y.no =
-    one_reason loaded.zones job.limits job.domain.text job.size loaded.file x.no y.no
-    (no_memory x.no a x.is) (no_memory y.no b y.is) x.reason y.reason in
+    let same : x.reason ≡ y.reason =
+    one_reason loaded.zones job.limits job.domain.text job.size loaded.file x.reason y.reason
+    (no_memory x.reason a x.is) (no_memory y.reason b y.is) x.first y.first in
     error_once a b (sym x.is ∙ (ap refused_by same ∙ y.is))
 
 one_output : (job : Verify) (loaded : Loaded) (a b : Output) → IsAccepted job loaded a → IsAccepted job loaded b
     → a ≡ b
 one_output job loaded a b x y =
-    let yes : x.yes ≡ y.yes =
-    one_yes loaded.zones job.limits job.domain.text job.size loaded.file x.yes y.yes x.certified y.certified in
-    let bytes : a.bytes ≡ b.bytes = x.line ∙ (ap (λ (z : Yes). yes_line z) yes ∙ sym y.line) in
+    let counts : x.counts ≡ y.counts =
+    one_yes loaded.zones job.limits job.domain.text job.size loaded.file x.counts y.counts x.certified y.certified in
+    let bytes : a.bytes ≡ b.bytes = x.line ∙ (ap (λ (z : Yes). yes_line z) counts ∙ sym y.line) in
     let asked : a.asked ≡ b.asked = x.untold ∙ sym y.untold in
     λ i. record { bytes = bytes i; asked = asked i }
 
@@ -83,8 +83,9 @@ one_output job loaded a b x y =
 never_both : (job : Verify) (loaded : Loaded) (output : Output) (why : Refusal) → IsAccepted job loaded output
     → IsDenied job loaded why → ⊥
 never_both job loaded output why x y =
-    no_memory y.no why y.is
-    (no_reason_beside_yes loaded.zones job.limits job.domain.text job.size loaded.file x.yes y.no x.certified y.reason)
+    no_memory y.reason why y.is
+    (no_reason_beside_yes loaded.zones job.limits job.domain.text job.size loaded.file x.counts y.reason x.certified
+    y.first)
 
 one_due : (job : Verify) (loaded : Loaded) (x y : Due) → VerifyDue job loaded x → VerifyDue job loaded y → x ≡ y
 one_due job loaded x y (accepted a is due) (accepted b is' due') =

@@ -21,7 +21,7 @@ use Rattle.job_verify.specs.declared.verify.Verify.{Verify}
 
 -- project's own format: the line of a file that is accepted has the numbers of its terms and of its records
 abbrev pub yes_line : Yes → List ℕ
-yes_line yes = line_of (codes "yes ") (spaced (decimal yes.terms) (decimal yes.records))
+yes_line counts = line_of (codes "yes ") (spaced (decimal counts.terms) (decimal counts.records))
 
 -- project's own choice: the refusal of a reason; want of memory is none
 abbrev pub refused_by : No → OrMemory Refusal
@@ -37,16 +37,16 @@ refused_by no.Memory = Memory
 -- RFC 7208, section 4: the file's records, alone, give each address the verdict that it has over the zones, and neither
 -- fewer terms nor fewer records would do; the output says how many there are, and no question is told of
 pub record IsAccepted (job : Verify) (loaded : Loaded) (output : Output) : Type 0 where
-  pub yes : Yes
-  pub certified : IsCertified loaded.zones job.limits job.domain.text job.size loaded.file yes
-  pub line : output.bytes ≡ yes_line yes
+  pub counts : Yes
+  pub certified : IsCertified loaded.zones job.limits job.domain.text job.size loaded.file counts
+  pub line : output.bytes ≡ yes_line counts
   pub untold : output.asked ≡ []
 
 -- the first reason why the file is not accepted
 pub record IsDenied (job : Verify) (loaded : Loaded) (why : Refusal) : Type 0 where
-  pub no : No
-  pub reason : IsReason loaded.zones job.limits job.domain.text job.size loaded.file no
-  pub is : refused_by no ≡ Error why
+  pub reason : No
+  pub first : IsReason loaded.zones job.limits job.domain.text job.size loaded.file reason
+  pub is : refused_by reason ≡ Error why
 
 -- what is due: that the file is accepted, or why it is not
 pub data VerifyDue (job : Verify) (loaded : Loaded) (due : Due) : Type 0 where
