@@ -9,7 +9,7 @@ use addr_bits::Bytes;
 use cert_checker::{No, Yes, verify};
 use itoa::Buffer;
 use jobs::{Job, Output};
-use loading::{Denial, Loaded, OrMemory, Refusal, line};
+use loading::{Denial, Loaded, OrMemory, Refusal, line, push_part};
 use spf_model::Limits;
 use spfc_words::{
     Domain, EXCHANGES, Group, Input, Inputs, LOOKUPS, Row, SIZE, VOIDS, behind_options, push_file,
@@ -134,8 +134,7 @@ fn yes_line(alloc: Global, yes: Yes) -> Result<Bytes, AllocError>
 {
     let mut numbers = Bytes::new(alloc);
     numbers.extend_from_slice(Buffer::new().format(yes.terms).as_bytes())?;
-    numbers.push(b' ')?;
-    numbers.extend_from_slice(Buffer::new().format(yes.records).as_bytes())?;
+    push_part(&mut numbers, Buffer::new().format(yes.records).as_bytes())?;
     line(alloc, "yes ", numbers.as_slice())
 }
 
