@@ -1,4 +1,5 @@
 pub mod Answers
+pub mod Judging
 pub mod Laws
 pub mod Lines
 pub mod Parts

@@ -18,33 +18,38 @@ pub record IsFirst (IsWrong : ℕ → Type 0) (line : ℕ) : Type 0 where
 
 -- ---- the second round: the places
 
--- the mixed prefixes of the verdicts with their families, in the order in which their rows must stand
+-- prefixes with their families, IPv4 before IPv6
+abbrev pub in_order : (mixed4 mixed6 : List Cidr) → List (Family × Cidr)
+in_order mixed4 mixed6 = map (λ p. (V4, p)) mixed4 ++ map (λ p. (V6, p)) mixed6
+
+-- the mixed prefixes of the verdicts, in the order in which their rows must stand
 abbrev pub places : (v4 v6 : ℕ → Verdict) → List (Family × Cidr)
-places v4 v6 = map (λ p. (V4, p)) (mixed_prefixes 32 v4 32 0) ++ map (λ p. (V6, p)) (mixed_prefixes 128 v6 128 0)
+places v4 v6 = in_order (mixed_prefixes 32 v4 32 0) (mixed_prefixes 128 v6 128 0)
 
 -- how many rows of a family stand before a line
 abbrev pub rows_before : List PlacedRow → (line : ℕ) → ℕ
 rows_before rows line = count_by (λ row. nat_lt row.line line) rows
 
--- in this line stands a row of this family, and with so many rows before it, it must be that of another prefix, or none
-pub record IsRowMisplaced (v4 v6 : ℕ → Verdict) (rows4 rows6 : List PlacedRow) (f : Family) (rows : List PlacedRow)
-    (line : ℕ) : Type 0 where
+-- in this line stands a row of this family, and by the order, with so many rows before it, that of another prefix, or
+-- none, must stand there
+pub record IsRowMisplaced (order : List (Family × Cidr)) (rows4 rows6 : List PlacedRow) (f : Family)
+    (rows : List PlacedRow) (line : ℕ) : Type 0 where
   pub row : PlacedRow
   pub stands : Contains rows row
   pub at : row.line ≡ line
-  pub other :
-      slice_get (places v4 v6) (rows_before rows4 line + rows_before rows6 line) ≢ Some (f, row.row.prefix)
+  pub other : slice_get order (rows_before rows4 line + rows_before rows6 line) ≢ Some (f, row.row.prefix)
 
--- the total stands in this line, and not behind as many rows as there are mixed prefixes
-pub record IsTotalMisplaced (v4 v6 : ℕ → Verdict) (rows4 rows6 : List PlacedRow) (last line : ℕ) : Type 0 where
+-- the total stands in this line, and not behind as many rows as must stand before it
+pub record IsTotalMisplaced (order : List (Family × Cidr)) (rows4 rows6 : List PlacedRow) (last line : ℕ)
+    : Type 0 where
   pub at : line ≡ last
-  pub other : length rows4 + length rows6 ≢ length (places v4 v6)
+  pub other : length rows4 + length rows6 ≢ length order
 
 -- the table line is not the one which must stand there
-abbrev pub IsMisplaced : (v4 v6 : ℕ → Verdict) → (rows4 rows6 : List PlacedRow) → (last line : ℕ) → Type 0
-IsMisplaced v4 v6 rows4 rows6 last line =
-    IsRowMisplaced v4 v6 rows4 rows6 V4 rows4 line
-    ⊎ (IsRowMisplaced v4 v6 rows4 rows6 V6 rows6 line ⊎ IsTotalMisplaced v4 v6 rows4 rows6 last line)
+abbrev pub IsMisplaced : (order : List (Family × Cidr)) → (rows4 rows6 : List PlacedRow) → (last line : ℕ) → Type 0
+IsMisplaced order rows4 rows6 last line =
+    IsRowMisplaced order rows4 rows6 V4 rows4 line
+    ⊎ (IsRowMisplaced order rows4 rows6 V6 rows6 line ⊎ IsTotalMisplaced order rows4 rows6 last line)
 
 -- ---- the third round: the numbers
 
@@ -72,8 +77,8 @@ IsMiscounted v4 v6 rows4 rows6 total last line =
 -- the second round names this line, or finds no fault, and the third one names it
 abbrev pub IsNamed : (v4 v6 : ℕ → Verdict) → (rows4 rows6 : List PlacedRow) → (total last line : ℕ) → Type 0
 IsNamed v4 v6 rows4 rows6 total last line =
-    IsFirst (IsMisplaced v4 v6 rows4 rows6 last) line
-    ⊎ (((other : ℕ) → ¬ IsMisplaced v4 v6 rows4 rows6 last other)
+    IsFirst (IsMisplaced (places v4 v6) rows4 rows6 last) line
+    ⊎ (((other : ℕ) → ¬ IsMisplaced (places v4 v6) rows4 rows6 last other)
     × IsFirst (IsMiscounted v4 v6 rows4 rows6 total last) line)
 
 -- a good table, IPv4 before IPv6, with no number that is too large

@@ -1,7 +1,6 @@
 -- What holds of bytes that are accepted, whoever wrote them.
 use Rattle.std.specs.Prelude.{◌≡◌, ℕ, ◌≤◌, List, [], length}
 use Rattle.zone_answers.specs.Lend.{AreLendable, IsLent, with_zone}
-use Rattle.zone_answers.specs.Names.{other_text_of}
 use Rattle.zone_answers.specs.Zone.{Zone}
 use Rattle.spf_grammar.specs.Families.{HavePrefixes}
 use Rattle.spf_grammar.specs.Flat.{first}
@@ -11,8 +10,8 @@ use Rattle.spf_model.specs.declared.outcome.Limits.{Limits}
 use Rattle.record_pack.specs.Records.{IsFittingCut}
 use Rattle.published_records.specs.Published.{AllHaveWithin}
 use Rattle.cert_checker.specs.declared.answer.Yes.{Yes}
-use Rattle.cert_checker.specs.Forms.{ReadChain, name_at, terms_of}
-use Rattle.cert_checker.specs.Reasons.{AllFit, HasTable, IsSameList}
+use Rattle.cert_checker.specs.Forms.{ReadChain, TextsFit, name_at, terms_of}
+use Rattle.cert_checker.specs.Reasons.{HasTable, IsSameList, others_at}
 
 -- RFC 7208, section 4: the bytes are read as a chain of records of the domain, in the zone of the domain. Over these
 -- records alone check_host gives each address, within the limits of a mail receiver, the verdict that it has over the
@@ -33,7 +32,7 @@ pub record IsCertified (zones : List Zone) (limits : Limits) (domain : List ℕ)
   pub table : HasTable bytes (terms_of chain) (length (terms_of chain))
   pub shortest : (other : List FlatTerm) → HavePrefixes other → IsSameList zones limits domain other
       → length (terms_of chain) ≤ length other
-  pub fit : AllFit zones domain chain.label size chain.records
+  pub fit : TextsFit domain chain.label size (others_at zones domain) 0 chain.records
   pub fewest : (ends : List ℕ)
-      → IsFittingCut domain chain.label size (other_text_of zones (name_at domain)) (terms_of chain) ends
+      → IsFittingCut domain chain.label size (others_at zones domain) (terms_of chain) ends
       → length chain.records ≤ length ends

@@ -1,5 +1,5 @@
 -- The records of a chain, whoever wrote them: each but the last is a TXT record that redirects to the next one.
-use Rattle.std.specs.Prelude.{◌≡◌, ⊤, ℕ, ◌+◌, ◌<◌, ◌≤◌, ◌==◌, Bool, true, false, not, ◌&&◌, IsTrue, IsFalse, List, [], ◌∷◌, length, Option, Some, None, Ok, Err, Result, if◌then◌else◌}
+use Rattle.std.specs.Prelude.{◌≡◌, ⊤, ℕ, ◌+◌, ◌<◌, ◌≤◌, ◌==◌, Bool, true, false, not, ◌&&◌, ◌⊎◌, IsTrue, IsFalse, List, [], ◌∷◌, length, Option, Some, None, Ok, Err, Result, if◌then◌else◌}
 use Rattle.std.specs.List.{list_all, list_any}
 use Rattle.addr_bits.specs.declared.address.Family.{Family}
 use Rattle.dns_name.specs.Name.{name_of_text}
@@ -16,10 +16,11 @@ use Rattle.spf_grammar.specs.Grammar.{SpellsPolicy}
 use Rattle.spf_grammar.specs.declared.flat.FlatTerm.{FlatTerm}
 use Rattle.spf_grammar.specs.declared.flat.Net.{Net}
 use Rattle.spf_grammar.specs.declared.flat.Net.TheVariants.{V4, V6, All}
+use Rattle.spf_grammar.specs.declared.policy.Policy.{Policy}
 use Rattle.spf_model.specs.Chains.{all_terms, directives_of, redirect_terms}
 use Rattle.spf_model.specs.Check.{text_of}
 use Rattle.spf_model.specs.Judging.{Labels, name_of}
-use Rattle.record_pack.specs.Records.{record_name}
+use Rattle.record_pack.specs.Records.{IsFittingCut, record_name}
 use Rattle.zone_writer.specs.Written.{record_owner}
 
 -- ---- names
@@ -51,11 +52,15 @@ has_all_last [] = true
 has_all_last (term ∷ []) = true
 has_all_last (term ∷ next ∷ terms) = not (is_all term.net) && has_all_last (next ∷ terms)
 
--- RFC 7208, sections 4.5 and 4.6: a TXT record whose text spells these flat terms and then the redirect, if there is one
-pub record IsFlat (body : Body) (terms : List FlatTerm) (redirect : Option (List Piece)) : Type 0 where
+-- RFC 7208, sections 4.5 and 4.6: a TXT record whose text spells the policy
+pub record HasPolicy (body : Body) (policy : Policy) : Type 0 where
   pub text : List ℕ
   pub is_text : text_of body ≡ Some text
-  pub spells : SpellsPolicy text (record { terms = directives_of terms (redirect_terms redirect) })
+  pub spells : SpellsPolicy text policy
+
+-- RFC 7208, sections 5.1, 5.6 and 6.1: its terms are these flat terms and then the redirect, if there is one
+abbrev pub IsFlat : Body → List FlatTerm → Option (List Piece) → Type 0
+IsFlat body terms redirect = HasPolicy body (record { terms = directives_of terms (redirect_terms redirect) })
 
 -- RFC 7208, sections 6.1, 7.1 and 7.3: a domain-spec without macro-expand, which asks for this name
 pub record LeadsTo (spec : List Piece) (name : Labels) : Type 0 where
@@ -124,3 +129,13 @@ abbrev pub TextsFit : (domain label : List ℕ) → (size others k : ℕ) → Li
 TextsFit domain label size others k [] = ⊤
 TextsFit domain label size others k (r ∷ records) =
     TextFits domain label size others k (text_of r.body) × TextsFit domain label size others (k + 1) records
+
+-- project's own choice: a cut of the list at the same names with fewer records fits, with the written texts
+abbrev pub HasShorterCut : (domain label : List ℕ) → (size others : ℕ) → List FlatTerm → (records : ℕ) → Type 0
+HasShorterCut domain label size others list records =
+    (ends : List ℕ) × IsFittingCut domain label size others list ends × (length ends < records)
+
+-- a record does not fit, or fewer records would do
+abbrev pub IsRecordsFault : (domain label : List ℕ) → (size others : ℕ) → List Record → List FlatTerm → Type 0
+IsRecordsFault domain label size others records list =
+    ¬ TextsFit domain label size others 0 records ⊎ HasShorterCut domain label size others list (length records)

@@ -21,10 +21,9 @@ use Rattle.policy_verdicts.specs.Policy.{IsLeastRefused, StandsBefore}
 use Rattle.bound_table.specs.Placed.{PlacedRow}
 use Rattle.bound_table.specs.Reading.{AreTable, IsMisspelled, lines_of}
 use Rattle.bound_table.specs.Rounds.{IsGoodAsPlaced, IsNamed}
-use Rattle.record_pack.specs.Records.{IsFittingCut}
 use Rattle.cert_checker.specs.declared.answer.No.{No}
 use Rattle.cert_checker.specs.declared.answer.No.TheVariants as no
-use Rattle.cert_checker.specs.Forms.{HasChainForm, ReadChain, TextsFit, name_at, terms_of}
+use Rattle.cert_checker.specs.Forms.{HasChainForm, IsRecordsFault, ReadChain, name_at, terms_of}
 
 -- ---- verdicts
 
@@ -75,21 +74,9 @@ IsTableFault bytes list line = IsMisspelled (lines_of bytes) line ⊎ IsBadTable
 
 -- ---- the records
 
--- RFC 7208, section 3.4: each record fits with the text that it has, the first beside the other texts at the domain
-abbrev pub AllFit : List Zone → (domain label : List ℕ) → (size : ℕ) → List Record → Type 0
-AllFit zones domain label size records = TextsFit domain label size (other_text_of zones (name_at domain)) 0 records
-
--- project's own choice: a cut of the list at the same names, with so many records, fits with the written texts
-abbrev pub FitsInto : List Zone → (domain label : List ℕ) → (size : ℕ) → List FlatTerm → (records : ℕ) → Type 0
-FitsInto zones domain label size list records =
-    (ends : List ℕ) × IsFittingCut domain label size (other_text_of zones (name_at domain)) list ends
-    × (length ends ≡ records)
-
--- a record does not fit, or fewer records would do
-abbrev pub IsRecordsFault : List Zone → (domain label : List ℕ) → (size : ℕ) → List Record → List FlatTerm → Type 0
-IsRecordsFault zones domain label size records list =
-    ¬ AllFit zones domain label size records
-    ⊎ ((fewer : ℕ) × (fewer < length records) × FitsInto zones domain label size list fewer)
+-- RFC 7208, section 3.4: the other texts at the domain, over the zones, beside which the first record must fit
+abbrev pub others_at : List Zone → (domain : List ℕ) → ℕ
+others_at zones domain = other_text_of zones (name_at domain)
 
 -- ---- the reasons, in their order. Each is stated with all that the earlier ones leave
 
@@ -124,7 +111,7 @@ HasOtherTotal zones limits domain bytes =
 abbrev pub HasOtherRecords : List Zone → Limits → (domain : List ℕ) → (size : ℕ) → (bytes : List ℕ) → Type 0
 HasOtherRecords zones limits domain size bytes =
     (found : SameChain zones limits domain bytes) × HasTable bytes (terms_of found.chain) (length (terms_of found.chain))
-    × IsRecordsFault zones domain found.chain.label size found.chain.records (terms_of found.chain)
+    × IsRecordsFault domain found.chain.label size (others_at zones domain) found.chain.records (terms_of found.chain)
 
 -- project's own choice of the reasons and of their order; want of memory may come anywhere
 abbrev pub IsReason : List Zone → Limits → (domain : List ℕ) → (size : ℕ) → (bytes : List ℕ) → No → Type 0

@@ -1,9 +1,11 @@
 //! What a certificate comes to.
 
 use addr_bits::Address;
+use bound_table::TableFault;
 use master_reader::{Kind, ZoneFault};
 use spf_model::Outcome;
 use std::alloc::AllocError;
+use verdict_map::VerdictFault;
 
 /// The records of a fragment give each address its verdict, by the fewest terms, and in the fewest records that fit.
 #[derive(Clone, Copy, Debug, PartialEq, Eq)]
@@ -52,5 +54,47 @@ impl From<AllocError> for No {
 
     fn from(_: AllocError) -> No {
         No::Memory
+    }
+}
+
+impl From<VerdictFault> for No {
+    ghost use Rattle.std.specs.Prelude.{◌≡◌};
+    ghost use Rattle.cert_checker.specs.Steps.{no_of_verdicts};
+
+    ghost from_gives = { λ fault no. no ≡ no_of_verdicts fault };
+
+    fn from(fault: VerdictFault) -> No {
+        match fault {
+            VerdictFault::Refused { address, outcome } => No::Refused { address, outcome },
+            VerdictFault::Memory => No::Memory,
+        }
+    }
+}
+
+impl From<ZoneFault> for No {
+    ghost use Rattle.std.specs.Prelude.{◌≡◌};
+    ghost use Rattle.cert_checker.specs.Steps.{no_of_zone};
+
+    ghost from_gives = { λ fault no. no ≡ no_of_zone fault };
+
+    fn from(fault: ZoneFault) -> No {
+        match fault {
+            ZoneFault::Bad { line, kind } => No::NotZone { line, kind },
+            ZoneFault::Memory => No::Memory,
+        }
+    }
+}
+
+impl From<TableFault> for No {
+    ghost use Rattle.std.specs.Prelude.{◌≡◌};
+    ghost use Rattle.cert_checker.specs.Steps.{no_of_table};
+
+    ghost from_gives = { λ fault no. no ≡ no_of_table fault };
+
+    fn from(fault: TableFault) -> No {
+        match fault {
+            TableFault::NotTable { line } => No::Table { line },
+            TableFault::Memory => No::Memory,
+        }
     }
 }

@@ -2,9 +2,11 @@
 #![tactic(auto)]
 
 mod answer;
-mod laws;
 mod certificate;
+mod chain;
+mod links;
+mod records;
+mod verdicts;
 
 pub use answer::{No, Yes};
-pub use laws::{no_reason_beside_yes, one_reason, published_has_no_reason};
 pub use certificate::verify;

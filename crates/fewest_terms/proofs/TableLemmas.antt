@@ -18,11 +18,11 @@ use Rattle.fewest_terms.proofs.Places.{lies-lowest}
 use Rattle.fewest_terms.proofs.Mixed.{need-mixed, need-plain, one-plain, mixed_count-mixed}
 use Rattle.fewest_terms.proofs.Whole.{total-le}
 
-claimed-mixed : (v : ℕ → Verdict) (k n : ℕ) (rows : List NeedRow) (c : Verdict) → is_mixed v k n ≡ true → claimed v k n rows c ≡ first_number rows c
+pub claimed-mixed : (v : ℕ → Verdict) (k n : ℕ) (rows : List NeedRow) (c : Verdict) → is_mixed v k n ≡ true → claimed v k n rows c ≡ first_number rows c
 unfolding claimed
 claimed-mixed v k n rows c e = cond-true (is_mixed v k n) (first_number rows c) (cost (v (lowest k n)) c) e
 
-claimed-plain : (v : ℕ → Verdict) (k n : ℕ) (rows : List NeedRow) (c : Verdict) → is_mixed v k n ≡ false → claimed v k n rows c ≡ need v k n c
+pub claimed-plain : (v : ℕ → Verdict) (k n : ℕ) (rows : List NeedRow) (c : Verdict) → is_mixed v k n ≡ false → claimed v k n rows c ≡ need v k n c
 unfolding claimed
 claimed-plain v k n rows c e = cond-false (is_mixed v k n) (first_number rows c) (cost (v (lowest k n)) c) e ∙ sym (need-plain v k n c e)
 
@@ -30,12 +30,12 @@ at_mixed-mono : (s t : Verdict → ℕ) → ((d : Verdict) → s d ≤ t d) → 
 at_mixed-mono s t h c = omega (arith, h c, least-mono s t h)
 
 -- the places of the rows
-mixed_prefixes-mixed : (w : ℕ) (v : ℕ → Verdict) (k n : ℕ) → is_mixed v (suc k) n ≡ true
+pub mixed_prefixes-mixed : (w : ℕ) (v : ℕ → Verdict) (k n : ℕ) → is_mixed v (suc k) n ≡ true
     → mixed_prefixes w v (suc k) n ≡ prefix_of w (suc k) n ∷ (mixed_prefixes w v k (2 * n) ++ mixed_prefixes w v k (2 * n + 1))
 unfolding mixed_prefixes
 mixed_prefixes-mixed w v k n e = cond-true (is_mixed v (suc k) n) (prefix_of w (suc k) n ∷ (mixed_prefixes w v k (2 * n) ++ mixed_prefixes w v k (2 * n + 1))) [] e
 
-mixed_prefixes-plain : (w : ℕ) (v : ℕ → Verdict) (k n : ℕ) → is_mixed v (suc k) n ≡ false → mixed_prefixes w v (suc k) n ≡ []
+pub mixed_prefixes-plain : (w : ℕ) (v : ℕ → Verdict) (k n : ℕ) → is_mixed v (suc k) n ≡ false → mixed_prefixes w v (suc k) n ≡ []
 unfolding mixed_prefixes
 mixed_prefixes-plain w v k n e = cond-false (is_mixed v (suc k) n) (prefix_of w (suc k) n ∷ (mixed_prefixes w v k (2 * n) ++ mixed_prefixes w v k (2 * n + 1))) [] e
 
@@ -59,7 +59,7 @@ abbrev Begin : (w : ℕ) → (ℕ → Verdict) → (k n : ℕ) → List Cidr →
 Begin w v k n rest rows = map (λ r. r.prefix) rows ≡ mixed_prefixes w v k n ++ rest
 
 -- a row's own k and n
-own : (w k n : ℕ) (v : ℕ → Verdict) (row : NeedRow) (rows : List NeedRow) → suc k ≤ w → row.prefix ≡ prefix_of w (suc k) n → KeepsRowRule w v row rows
+pub own : (w k n : ℕ) (v : ℕ → Verdict) (row : NeedRow) (rows : List NeedRow) → suc k ≤ w → row.prefix ≡ prefix_of w (suc k) n → KeepsRowRule w v row rows
     → (c : Verdict) → number row.needs c ≤ at_mixed (claimed_of_halves v k n rows) c
 own w k n v row rows h e rule c =
     let len : row.prefix.len ≡ w - suc k = ap (λ p. p.len) e in
@@ -74,7 +74,7 @@ KeepRowRule-drop w v zero rows h = h
 KeepRowRule-drop w v (suc j) [] h = h
 KeepRowRule-drop w v (suc j) (row ∷ rows) h = KeepRowRule-drop w v j rows h.1
 
-map-drop : (j : ℕ) (rows : List NeedRow) → map (λ r. r.prefix) (drop j rows) ≡ drop j (map (λ r. r.prefix) rows)
+pub map-drop : (j : ℕ) (rows : List NeedRow) → map (λ r. r.prefix) (drop j rows) ≡ drop j (map (λ r. r.prefix) rows)
 map-drop zero rows = refl
 map-drop (suc j) [] = refl
 map-drop (suc j) (row ∷ rows) = map-drop j rows
@@ -180,7 +180,7 @@ halves-need_rows w v k n rest c =
     ∙ claimed-need_rows w v k (2 * n + 1) rest c)
 
 -- a row at its own k and n
-to_own : (w k n : ℕ) (v : ℕ → Verdict) (needs : Needs) (rows : List NeedRow) → suc k ≤ w
+pub to_own : (w k n : ℕ) (v : ℕ → Verdict) (needs : Needs) (rows : List NeedRow) → suc k ≤ w
     → ((c : Verdict) → number needs c ≤ at_mixed (claimed_of_halves v k n rows) c) → KeepsRowRule w v (record { prefix = prefix_of w (suc k) n; needs = needs }) rows
 to_own w k n v needs rows h rule c =
     let open_bits : w - (w - suc k) ≡ suc k = omega arith in

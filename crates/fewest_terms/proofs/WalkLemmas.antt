@@ -10,12 +10,12 @@ use Rattle.addr_bits.specs.Prefix.{Cidr}
 use Rattle.fewest_terms.specs.Row.{NeedRow}
 use Rattle.addr_bits.specs.Blocks.{lowest, prefix_of}
 use Rattle.fewest_terms.specs.Needs.{is_mixed, need, need_of_halves, at_mixed, mixed_count}
-use Rattle.fewest_terms.specs.Tables.{number, needs_of, need_rows}
+use Rattle.fewest_terms.specs.Tables.{number, needs_of, need_rows, mixed_prefixes}
 use Rattle.fewest_terms.specs.Chosen.{chosen}
 use Rattle.addr_bits.specs.Width.{cut_of}
 use Rattle.fewest_terms.specs.Leaves.{ruled, ruled_row, AreLeaves, sums_at, need_at, terms_at, verdict_at, leaves_of, first_start, bits_at, BeginAt, sum_rows}
 use Rattle.std.proofs.Math.Nat.{sub-zero}
-use Rattle.fewest_terms.proofs.TableLemmas.{need_rows-mixed, need_rows-plain}
+use Rattle.fewest_terms.proofs.TableLemmas.{need_rows-mixed, need_rows-plain, mixed_prefixes-mixed, mixed_prefixes-plain}
 use Rattle.fewest_terms.proofs.Places.{lies-lowest}
 use Rattle.fewest_terms.proofs.Mixed.{lowest-half, need-mixed, one-plain, mixed_count-mixed, need-small}
 
@@ -32,7 +32,7 @@ unfolding leaves_of
 leaves_of-plain w v zero n e = refl
 leaves_of-plain w v (suc k) n e = cond-false (is_mixed v (suc k) n) (leaves_of w v k (2 * n) ++ leaves_of w v k (2 * n + 1)) ((prefix_of w (suc k) n, v (lowest (suc k) n)) ∷ []) e
 
-mixed_count-plain : (v : ℕ → Verdict) (k n : ℕ) → is_mixed v k n ≡ false → mixed_count v k n ≡ 0
+pub mixed_count-plain : (v : ℕ → Verdict) (k n : ℕ) → is_mixed v k n ≡ false → mixed_count v k n ≡ 0
 unfolding mixed_count
 mixed_count-plain v zero n e = refl
 mixed_count-plain v (suc k) n e = cond-false (is_mixed v (suc k) n) (1 + (mixed_count v k (2 * n) + mixed_count v k (2 * n + 1))) 0 e
@@ -236,6 +236,18 @@ pub sum_rows-plain : (w : ℕ) (v : ℕ → Verdict) (k n : ℕ) → is_mixed v 
 unfolding sum_rows sums_of
 sum_rows-plain w v zero n e = refl
 sum_rows-plain w v (suc k) n e = cond-false (is_mixed v (suc k) n) (record { prefix = prefix_of w (suc k) n; needs = sums_of v k n } ∷ (sum_rows w v k (2 * n) ++ sum_rows w v k (2 * n + 1))) [] e
+
+-- the prefixes of the sums are the mixed ones
+pub sum_rows-places : (w : ℕ) (v : ℕ → Verdict) (k n : ℕ) → map (λ r. r.prefix) (sum_rows w v k n) ≡ mixed_prefixes w v k n
+unfolding mixed_prefixes
+sum_rows-places w v zero n = ap (map (λ r. r.prefix)) (sum_rows-plain w v zero n (one-plain v n))
+sum_rows-places w v (suc k) n = elim (cases_Bool (is_mixed v (suc k) n)) [
+  | inl m ↦ ap (map (λ r. r.prefix)) (sum_rows-mixed w v k n m)
+      ∙ ap (λ ps. prefix_of w (suc k) n ∷ ps) (map-append (λ (r : NeedRow). r.prefix) (sum_rows w v k (2 * n)) (sum_rows w v k (2 * n + 1))
+      ∙ ap₂ (λ x y. x ++ y) (sum_rows-places w v k (2 * n)) (sum_rows-places w v k (2 * n + 1)))
+      ∙ sym (mixed_prefixes-mixed w v k n m)
+  | inr m ↦ ap (map (λ r. r.prefix)) (sum_rows-plain w v (suc k) n m) ∙ sym (mixed_prefixes-plain w v k n m)
+]
 
 -- the halves, from what the code has read
 pub halves_read : (w : ℕ) (leaves : List (Cidr × Verdict)) (from len : ℕ) (r : Cidr × Verdict) → len ≤ w → BeginAt w leaves from len

@@ -36,13 +36,16 @@ pub struct Shortest {
 
 /// What the halves of each mixed prefix need together, and what all addresses of the family need.
 #[derive(Drop)]
-struct Sums<W: Width> {
-    rows: Vec<Row<W>>,
-    needs: Needs,
+pub(crate) struct Sums<W: Width> {
+    pub rows: Vec<Row<W>>,
+    pub needs: Needs,
 }
 
 /// Walks over all leaves of a trie.
-fn sums_of<W: Width>(alloc: Global, leaves: &[(Prefix<W>, Verdict)]) -> Result<Sums<W>, AllocError>
+pub(crate) fn sums_of<W: Width>(
+    alloc: Global,
+    leaves: &[(Prefix<W>, Verdict)],
+) -> Result<Sums<W>, AllocError>
     requires leaves { AreLeaves W.BITS leaves.now }
     ensures rows { IfOk result (λ sums. sums.rows.items ≡ sum_rows W.BITS (verdict_at W.BITS leaves.now) W.BITS 0) }
     ensures needs { IfOk result (λ sums. (c : Verdict)

@@ -5,6 +5,7 @@ mod answer;
 mod choose;
 mod laws;
 mod needs;
+mod prefixes;
 mod row;
 mod walk;
 
@@ -14,6 +15,7 @@ pub use laws::{
     chosen_is_shortest, mixed_is_exact, need_is_small, no_list_is_shorter, no_list_spends_less,
 };
 pub use needs::Needs;
+pub use prefixes::mixed_prefixes;
 pub use row::{Row, Rows};
 use spf_grammar::FlatTerm;
 

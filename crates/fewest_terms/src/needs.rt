@@ -26,7 +26,7 @@ pub struct Needs {
 impl Needs {
     /// What a prefix needs whose addresses all have this verdict: one term, and none where they have it already.
     #[tactic(auto, unfolding(crate::specs::Verdicts::cost))]
-    pub(crate) fn of_one(verdict: Verdict) -> Needs
+    pub fn of_one(verdict: Verdict) -> Needs
         ensures { (c : Verdict) → number_of result c ≡ cost verdict c }
     {
         let all = Needs {
@@ -123,7 +123,7 @@ impl Needs {
 
     /// The least number of terms of a list, where this is what all addresses need: `all` is one term more.
     #[tactic(auto, unfolding(crate::specs::Totals::least_with_all))]
-    pub(crate) fn total(self) -> u64
+    pub fn total(self) -> u64
         ensures { result ≡ least_with_all (number_of self) }
     {
         let fail = self.fail.saturating_add(1);

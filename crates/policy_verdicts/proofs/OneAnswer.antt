@@ -27,7 +27,7 @@ one_number : (a b : ℕ) → (a < b → ⊥) → (b < a → ⊥) → a ≡ b
 one_number a b x y = omega arith
 
 -- addresses of which neither stands before the other are one
-one_place : (a b : Address) → (StandsBefore a b → ⊥) → (StandsBefore b a → ⊥) → a ≡ b
+pub one_place : (a b : Address) → (StandsBefore a b → ⊥) → (StandsBefore b a → ⊥) → a ≡ b
 one_place (V4 a) (V4 b) x y = ap (λ (n : ℕ). V4 n) (one_number a b x y)
 one_place (V4 a) (V6 b) x y = absurd (x tt)
 one_place (V6 a) (V4 b) x y = absurd (y tt)

@@ -87,7 +87,7 @@ pieces_terms list from (to ∷ ends) h =
 
 -- ---- a chain gives each address its verdict
 
-chain_gives : (zones : Answering) (domain : List ℕ) (name : Labels) (list : List FlatTerm) (lists : List (List FlatTerm)) (records : ℕ) → name_of domain ≡ Some name → IsChain zones domain name lists
+pub chain_gives : (zones : Answering) (domain : List ℕ) (name : Labels) (list : List FlatTerm) (lists : List (List FlatTerm)) (records : ℕ) → name_of domain ≡ Some name → IsChain zones domain name lists
     → length lists ≡ records → records ≤ 11 → all_terms lists ≡ list → AllHaveWithin zones domain records (first list)
 chain_gives zones domain name list lists records named chain many few same a is =
     given (chains_give_first zones receiver_limits a domain name lists chain (omega (arith, many, few)))

@@ -72,7 +72,7 @@ HasTwoLabels [] = ⊥
 HasTwoLabels (label ∷ []) = ⊥
 HasTwoLabels (label ∷ next ∷ labels) = Unit {0}
 
-two_labels : (labels : List (List ℕ)) → 2 ≤ length labels → HasTwoLabels (map lowercase_label labels)
+pub two_labels : (labels : List (List ℕ)) → 2 ≤ length labels → HasTwoLabels (map lowercase_label labels)
 two_labels [] h = absurd (omega (arith, h))
 two_labels (label ∷ []) h = absurd (omega (arith, h))
 two_labels (label ∷ next ∷ labels) h = tt
@@ -85,7 +85,7 @@ name_has_two domain label name words named =
     let sizes = and_parts (nat_le 2 (length labels)) (list_all is_domain_label labels) tops.0 in
     subst HasTwoLabels (sym (name_is domain label name words named)) (two_labels (slice_split is_dot domain) (leb-true 2 (length labels) sizes.0))
 
-owner_has_two : (name : List (List ℕ)) (label : List ℕ) (k : ℕ) → HasTwoLabels name → HasTwoLabels (record_owner name label k)
+pub owner_has_two : (name : List (List ℕ)) (label : List ℕ) (k : ℕ) → HasTwoLabels name → HasTwoLabels (record_owner name label k)
 owner_has_two name label k h = by (k == 0) name h
   where
     by : (t : Bool) (n : List (List ℕ)) → HasTwoLabels n → HasTwoLabels (cond t n ((label ++ decimal k) ∷ n))
@@ -202,7 +202,7 @@ unfolding Rattle.spf_model.specs.Judging.name_of
 unfolded text name h = ap legal h
 
 -- ---- a record that stands at its name
-stands : (zones : Answering) (name : List (List ℕ)) (text : List ℕ) (terms : List FlatTerm) (redirect : Option (List Piece)) → HasTwoLabels name → Holds zones name text
+pub stands : (zones : Answering) (name : List (List ℕ)) (text : List ℕ) (terms : List FlatTerm) (redirect : Option (List Piece)) → HasTwoLabels name → Holds zones name text
     → SpellsPolicy text (record { terms = directives_of terms (redirect_terms redirect) }) → StandsAt zones name terms redirect
 stands zones [] text terms redirect two holds spells = absurd two
 stands zones (label ∷ []) text terms redirect two holds spells = absurd two

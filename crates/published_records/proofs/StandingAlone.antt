@@ -42,7 +42,7 @@ lone_below name front records =
     (false_from_ne_true _ (λ (same : same_name name (front ∷ name) ≡ true). longer name front (same_true name (front ∷ name) same)))
     ∙ lone_at name records
 
-lone_owner : (name : List (List ℕ)) (label : List ℕ) (k : ℕ) (records : List Record)
+pub lone_owner : (name : List (List ℕ)) (label : List ℕ) (k : ℕ) (records : List Record)
     → zone_of (with_zone [] name records) (record_owner name label k) ≡ Some (record { origin = name; records = distinct_records records })
 lone_owner name label k records = by (k == 0) refl
   where
@@ -52,7 +52,7 @@ lone_owner name label k records = by (k == 0) refl
 
 -- ---- they may be lent
 
-under : (name : List (List ℕ)) (label : List ℕ) (k : ℕ) → IsUnder (record_owner name label k) name
+pub under : (name : List (List ℕ)) (label : List ℕ) (k : ℕ) → IsUnder (record_owner name label k) name
 under name label k = by (k == 0) refl
   where
     by : (t : Bool) → (k == 0) ≡ t → IsUnder (record_owner name label k) name
@@ -76,7 +76,7 @@ lendable_from domain label size others list name k from (to ∷ next ∷ ends) s
 
 -- ---- there is room
 
-length_distinct : (records : List Record) → length (distinct_records records) ≤ length records
+pub length_distinct : (records : List Record) → length (distinct_records records) ≤ length records
 length_distinct [] = omega arith
 length_distinct (r ∷ records) = omega (
   arith,
@@ -97,10 +97,10 @@ length_pieces list from (to ∷ ends) = ap suc (length_pieces list to ends)
 -- ---- nothing clashes
 
 -- no body clashes with this one
-abbrev ClashesNever : Body → Type 0
+abbrev pub ClashesNever : Body → Type 0
 ClashesNever body = (bodies : List Body) → list_any (bodies_clash body) bodies ≡ false
 
-txt_clash : (strings : List (List ℕ)) → ClashesNever (Txt strings)
+pub txt_clash : (strings : List (List ℕ)) → ClashesNever (Txt strings)
 txt_clash strings [] = refl
 txt_clash strings (body ∷ bodies) = txt_clash strings bodies
 
@@ -112,7 +112,7 @@ written_never : (domain label : List ℕ) (name : List (List ℕ)) (k : ℕ) (li
 written_never domain label name k [] = tt
 written_never domain label name k (terms ∷ lists) = (txt_clash (strings_of (record_text domain label terms k (is_none lists))), written_never domain label name (k + 1) lists)
 
-no_clash : (zone : Zone) (owner : List (List ℕ)) → AllByRecursion (λ r. ClashesNever r.body) zone.records → has_clash zone owner ≡ false
+pub no_clash : (zone : Zone) (owner : List (List ℕ)) → AllByRecursion (λ r. ClashesNever r.body) zone.records → has_clash zone owner ≡ false
 no_clash zone owner h =
     never_clash (bodies_at zone owner) (bodies_at zone owner)
     (all_mapped ClashesNever (λ r. r.body) (filter (λ r. same_name r.owner owner) zone.records) (all_kept (λ r. ClashesNever r.body) (λ r. ClashesNever r.body) (λ r. same_name r.owner owner) zone.records (λ r at n. n) h))

@@ -57,7 +57,7 @@ apart name label low high k r few_high few_k none (i, above, below, own) =
     let e : i ≡ k = owner_same name label i k (omega arith) few_k (sym own ∙ same_true r.owner (record_owner name label k) same) in
     none (omega (arith, e)) (omega (arith, e)))
 
-none_between : (name : List (List ℕ)) (label : List ℕ) (low high k : ℕ) (records : List Record) → high ≤ 11 → k ≤ 11 → (low ≤ k → k < high → ⊥)
+pub none_between : (name : List (List ℕ)) (label : List ℕ) (low high k : ℕ) (records : List Record) → high ≤ 11 → k ≤ 11 → (low ≤ k → k < high → ⊥)
     → AllByRecursion (IsBetween name label low high) records → filter (λ r. same_name r.owner (record_owner name label k)) records ≡ []
 none_between name label low high k records few_high few_k none h =
     none_kept (λ r. same_name r.owner (record_owner name label k)) records

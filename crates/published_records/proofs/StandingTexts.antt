@@ -13,13 +13,17 @@ use Rattle.zone_writer.specs.Fragment.{strings_of, strings_within}
 
 -- ---- the strings of a text
 
-strings_join : (n : ℕ) (text : List ℕ) → concat (strings_within n text) ≡ text
-strings_join zero text = append-nil text
-strings_join (suc n) text = by (nat_lt 255 (length text)) (strings_join n (drop 255 text))
+joined_within : (n : ℕ) (text : List ℕ) → concat (strings_within n text) ≡ text
+joined_within zero text = append-nil text
+joined_within (suc n) text = by (nat_lt 255 (length text)) (joined_within n (drop 255 text))
   where
     by : (t : Bool) → concat (strings_within n (drop 255 text)) ≡ drop 255 text → concat (cond t (take 255 text ∷ strings_within n (drop 255 text)) (text ∷ [])) ≡ text
     by true e = ap (λ rest. take 255 text ++ rest) e ∙ take-append-drop 255 text
     by false e = append-nil text
+
+-- the strings of a text join to it
+pub strings_join : (text : List ℕ) → concat (strings_of text) ≡ text
+strings_join text = joined_within (length text) text
 
 -- what is asked of the strings of a body
 abbrev AreFit : ℕ → List (List ℕ) → Type 0
@@ -55,7 +59,5 @@ record_is_spf domain label [] k true = refl
 record_is_spf domain label [] k false = refl
 record_is_spf domain label (term ∷ terms) k last = refl
 
-pub txt_of_spf : (text : List ℕ) → is_spf_text text ≡ true → spf_text_of (Txt (strings_of text)) ≡ Some text
-txt_of_spf text h =
-    ap (λ t. if is_spf_text t then Some t else None) (strings_join (length text) text)
-    ∙ ap (λ b. cond b (Some text) None) h
+pub txt_of_spf : (strings : List (List ℕ)) → is_spf_text (concat strings) ≡ true → spf_text_of (Txt strings) ≡ Some (concat strings)
+txt_of_spf strings h = ap (λ b. cond b (Some (concat strings)) None) h

@@ -13,7 +13,7 @@ const REDIRECT_LEN: u64 = b" redirect=".len() as u64;
 
 /// The octets of a record's name, held at the last value of the type: the domain for record 0, and the label, the
 /// number, a dot and the domain for another.
-fn name_len(domain: &[u8], label: &[u8], index: u32) -> u64
+pub fn name_len(domain: &[u8], label: &[u8], index: u32) -> u64
     ensures { result ≡ min (length (record_name domain.now label.now index)) (2 ^ 64 - 1) }
 {
     let domain = domain.len() as u64;

@@ -9,6 +9,6 @@ mod name;
 
 pub use cut::{Cut, Ends};
 pub use fault::PackFault;
-pub use fit::fits;
+pub use fit::{fits, name_len};
 pub use greedy::pack;
 pub use name::push_name;

@@ -14,7 +14,7 @@ loop-rest-preserved c = record {
   few = omega arith;
 }
 
-pub returns : goal.returns
-returns c =
+pub returns-clause-table : goal.returns-clause-table
+returns-clause-table c =
     no_end (lines_of c.args.bytes.now) (lines_of c.loop-rest.rest.now) c.loop-rest.rows4 c.loop-rest.rows6 c.loop-rest.line c.loop-rest.invariant.read
     (no_lines c.loop-rest.rest.now (eqb-true _ 0 (sym c.is_empty.ensures ∙ c.loop-rest-test.false)))

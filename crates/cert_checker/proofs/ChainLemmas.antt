@@ -1,0 +1,104 @@
+-- The names of the records of a chain, and what is left of them.
+use Rattle.std.proofs.Common.{◌≡◌, ℕ, ◌+◌, ◌-◌, ◌<◌, ◌≤◌, ◌==◌, Bool, true, false, cond, IsTrue, List, [], ◌∷◌, ◌++◌, length, drop, get_or, refl, sym, ap, ◌∙◌, subst, arith, add-one, drop-cons, drop_of_length-le, Option, Some, None, ◌↔◌}
+use Rattle.std.specs.Prelude.{decimal, slice_get}
+use Rattle.std.proofs.lemmas.Fmt.{decimal_digit}
+use Rattle.std.proofs.lemmas.List.{append_cancel_right}
+use Rattle.std.specs.List.{concat}
+use Rattle.std.specs.Borrow.{Bor}
+use Rattle.dns_name.specs.Name.{first_label_of, parent_of}
+use Rattle.master_reader.specs.declared.record.Record.{Record}
+use Rattle.spf_macros.specs.Words.{is_label}
+use Rattle.spf_grammar.specs.declared.flat.FlatTerm.{FlatTerm}
+use Rattle.spf_model.specs.Chains.{all_terms}
+use Rattle.spf_model.specs.Check.{text_of}
+use Rattle.spf_model.specs.Judging.{Labels}
+use Rattle.zone_writer.specs.Written.{record_owner}
+use Rattle.published_records.proofs.StandingRecords.{owner_first, owner_later}
+use Rattle.cert_checker.specs.Forms.{HasChainForm, HaveOwners, TextFits, TextsFit}
+
+pub next_item : {X : Type 0} (xs : List X) (i : ℕ) (x : X) → i < length xs → x ≡ get_or xs i x → drop i xs ≡ x ∷ drop (i + 1) xs
+next_item xs i x within e = rw (add-one, drop-cons xs i x within, ← e) refl
+
+-- ---- owners
+
+-- the names of all records are told by those from a number on
+abbrev pub OwnersBy : (name : Labels) → (label : List ℕ) → List Record → (number : ℕ) → List Record → Type 0
+OwnersBy name label records number rest =
+    (HaveOwners name label 0 records → HaveOwners name label number rest) × (HaveOwners name label number rest → HaveOwners name label 0 records)
+
+pub owners_next : (name : Labels) (label : List ℕ) (records rest behind : List Record) (r : Record) (number : ℕ) → rest ≡ r ∷ behind → r.owner ≡ record_owner name label number
+    → OwnersBy name label records number rest → OwnersBy name label records (number + 1) behind
+owners_next name label records rest behind r number is owner by =
+    (λ all. (subst (HaveOwners name label number) is (by.0 all)).1, λ more. by.1 (subst (HaveOwners name label number) (sym is) (owner, more)))
+
+pub owners_not : (name : Labels) (label : List ℕ) (records rest behind : List Record) (r : Record) (number : ℕ) → rest ≡ r ∷ behind → (r.owner ≡ record_owner name label number → ⊥)
+    → OwnersBy name label records number rest → HaveOwners name label 0 records → ⊥
+owners_not name label records rest behind r number is other by all = other (subst (HaveOwners name label number) is (by.0 all)).0
+
+pub owners_all : (name : Labels) (label : List ℕ) (records rest : List Record) (number : ℕ) → rest ≡ [] → OwnersBy name label records number rest → HaveOwners name label 0 records
+owners_all name label records rest number none by = by.1 (subst (HaveOwners name label number) (sym none) tt)
+
+-- ---- the label
+
+heads : {X : Type 0} {x y : X} {xs ys : List X} → x ∷ xs ≡ y ∷ ys → x ≡ y
+heads e = cc
+
+pub owner_second : (name : Labels) (label : List ℕ) (r second : Record) (records : List Record) → HaveOwners name label 0 (r ∷ second ∷ records) → second.owner ≡ (label ++ decimal 1) ∷ name
+owner_second name label r second records own = own.1.0
+
+-- ---- sizes
+
+-- the fit of all records is told by those from a number on
+abbrev pub FitBy : (domain label : List ℕ) → (size others : ℕ) → List Record → (number : ℕ) → List Record → Type 0
+FitBy domain label size others records number rest =
+    (TextsFit domain label size others 0 records → TextsFit domain label size others number rest)
+    × (TextsFit domain label size others number rest → TextsFit domain label size others 0 records)
+
+pub fit_next : (domain label : List ℕ) (size others : ℕ) (records rest behind : List Record) (r : Record) (number : ℕ) → rest ≡ r ∷ behind → TextFits domain label size others number (text_of r.body)
+    → FitBy domain label size others records number rest → FitBy domain label size others records (number + 1) behind
+fit_next domain label size others records rest behind r number is fits by =
+    (λ all. (subst (TextsFit domain label size others number) is (by.0 all)).1, λ more. by.1 (subst (TextsFit domain label size others number) (sym is) (fits, more)))
+
+pub fit_not : (domain label : List ℕ) (size others : ℕ) (records rest behind : List Record) (r : Record) (number : ℕ) → rest ≡ r ∷ behind
+    → (TextFits domain label size others number (text_of r.body) → ⊥) → FitBy domain label size others records number rest → TextsFit domain label size others 0 records → ⊥
+fit_not domain label size others records rest behind r number is none by all = none (subst (TextsFit domain label size others number) is (by.0 all)).0
+
+pub fit_all : (domain label : List ℕ) (size others : ℕ) (records rest : List Record) (number : ℕ) → rest ≡ [] → FitBy domain label size others records number rest → TextsFit domain label size others 0 records
+fit_all domain label size others records rest number none by = by.1 (subst (TextsFit domain label size others number) (sym none) tt)
+
+-- ---- labels
+
+some_same : {X : Type 0} {x y : X} → Some x ≡ Some y → x ≡ y
+some_same e = cc
+
+some_none : {X : Type 0} {x : X} → Some x ≡ None → ⊥
+some_none e = cc
+
+one_is : decimal 1 ≡ 49 ∷ []
+one_is = decimal_digit 1 (omega arith)
+
+second_label : (name : Labels) (label first : List ℕ) (records : List Record) (second : Record) → slice_get records 1 ≡ Some second → HaveOwners name label 0 records
+    → first_label_of second.owner ≡ Some (label ++ 49 ∷ [])
+second_label name label first [] second is own = absurd (some_none (sym is))
+second_label name label first (r ∷ []) second is own = absurd (some_none (sym is))
+second_label name label first (r ∷ s ∷ records) second is own =
+    ap (λ (x : Record). first_label_of x.owner) (sym (some_same is)) ∙ ap first_label_of own.1.0 ∙ ap (λ ds. Some (label ++ ds)) one_is
+
+pub label_single : (name : Labels) (records : List Record) → slice_get records 1 ≡ None → (label : List ℕ) → IsTrue (is_label label) → HaveOwners name label 0 records
+    → IsTrue (is_label (95 ∷ [])) × HaveOwners name (95 ∷ []) 0 records
+label_single name [] none label form own = (refl, tt)
+label_single name (r ∷ []) none label form own = (refl, (own.0, tt))
+label_single name (r ∷ s ∷ records) none label form own = absurd (some_none none)
+
+pub label_second : (name : Labels) (records : List Record) (second : Record) (first found : List ℕ) → slice_get records 1 ≡ Some second → first_label_of second.owner ≡ Some first
+    → first ≡ found ++ 49 ∷ [] → (label : List ℕ) → IsTrue (is_label label) → HaveOwners name label 0 records → IsTrue (is_label found) × HaveOwners name found 0 records
+label_second name records second first found is told cut label form own =
+    let same : label ≡ found = append_cancel_right label found (49 ∷ []) (some_same (sym (second_label name label first records second is own) ∙ told) ∙ cut) in
+    (subst (λ l. IsTrue (is_label l)) same form, subst (λ l. HaveOwners name l 0 records) same own)
+
+pub no_cut : (name : Labels) (records : List Record) (second : Record) (first : List ℕ) → slice_get records 1 ≡ Some second → first_label_of second.owner ≡ Some first
+    → ((front : List ℕ) → ¬ (first ≡ front ++ 49 ∷ [])) → (label : List ℕ) → HaveOwners name label 0 records → ⊥
+no_cut name records second first is told none label own = none label (some_same (sym told ∙ second_label name label first records second is own))
+
+pub no_first : (name : Labels) (records : List Record) (second : Record) → slice_get records 1 ≡ Some second → first_label_of second.owner ≡ None → (label : List ℕ) → HaveOwners name label 0 records → ⊥
+no_first name records second is told label own = some_none (sym (second_label name label [] records second is own) ∙ told)
