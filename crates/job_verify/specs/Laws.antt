@@ -1,7 +1,13 @@
 -- The laws of the job.
-use Rattle.std.specs.Prelude.{◌≡◌, ◌≢◌, ℕ, IsTrue, List, [], ◌∷◌, ◌++◌, codes}
+use Rattle.std.specs.Prelude.{◌≡◌, ◌≢◌, ℕ, IsTrue, List, [], ◌∷◌, ◌++◌, length, codes}
 use Rattle.std.proofs.Common.{sym, ap, subst, ◌∙◌, lit≤}
+use Rattle.master_reader.specs.declared.record.Record.{Record}
+use Rattle.master_reader.proofs.Once.{reads_once}
+use Rattle.zone_answers.specs.Zone.{Zone}
 use Rattle.spf_macros.specs.Words.{is_domain}
+use Rattle.spf_grammar.specs.declared.flat.FlatTerm.{FlatTerm}
+use Rattle.spf_model.specs.Chains.{all_terms}
+use Rattle.spf_model.specs.declared.outcome.Limits.{Limits}
 use Rattle.spfc_words.specs.Inputs.{file_input}
 use Rattle.spfc_words.specs.Options.{behind_options}
 use Rattle.spfc_words.specs.declared.input.Group.TheVariants.{Zones}
@@ -18,7 +24,10 @@ use Rattle.loading.specs.declared.refusal.Refusal.{Refusal}
 use Rattle.cert_checker.specs.declared.answer.No.{No}
 use Rattle.cert_checker.specs.declared.answer.No.TheVariants as no
 use Rattle.cert_checker.specs.declared.answer.Yes.{Yes}
-use Rattle.cert_checker.proofs.OneAnswer.{one_reason, one_yes, no_reason_beside_yes}
+use Rattle.cert_checker.specs.Certified.{IsCertified}
+use Rattle.cert_checker.specs.Forms.{AreLinked, ReadChain, name_at, terms_of}
+use Rattle.cert_checker.proofs.OneAnswer.{one_reason, no_reason_beside_yes}
+use Rattle.cert_checker.proofs.OneChain.{one_lists}
 use Rattle.jobs.specs.Meaning.{Due, Refuses, Gives, IsLawful}
 use Rattle.jobs.specs.declared.output.Output.{Output}
 use Rattle.job_verify.specs.Meaning.{IsAccepted, IsDenied, VerifyDue, accepted, denied, IsReady, meaning_of_verify}
@@ -53,6 +62,23 @@ one_verify (domain ∷ file ∷ words) a b x y =
     λ i. record { domain = named i; size = size i; limits = limits i; inputs = inputs i }
 
 -- ---- what is due
+
+-- bytes are one chain at most
+one_chain : (domain bytes : List ℕ) (a b : ReadChain domain bytes) → (a.records ≡ b.records) × (terms_of a ≡ terms_of b)
+one_chain domain bytes a b =
+    let records : a.records ≡ b.records = reads_once (name_at domain) bytes a.records b.records a.reads b.reads in
+    let lists : a.lists ≡ b.lists =
+    one_lists a.records a.lists b.lists a.form.linked (subst (λ r. AreLinked r b.lists) (sym records) b.form.linked) in
+    (records, ap (λ (ls : List (List FlatTerm)). all_terms ls) lists)
+
+one_yes : (zones : List Zone) (limits : Limits) (domain : List ℕ) (size : ℕ) (bytes : List ℕ) (a b : Yes)
+    → IsCertified zones limits domain size bytes a → IsCertified zones limits domain size bytes b → a ≡ b
+one_yes zones limits domain size bytes a b x y =
+    let one = one_chain domain bytes x.chain y.chain in
+    let terms : a.terms ≡ b.terms = x.terms ∙ (ap (λ (l : List FlatTerm). length l) one.1 ∙ sym y.terms) in
+    let records : a.records ≡ b.records = x.records ∙ (ap (λ (l : List Record). length l) one.0 ∙ sym y.records) in
+    λ i. record { terms = terms i; records = records i }
+
 error_once : (a b : Refusal) → (let x : OrMemory Refusal = Error a in x ≡ Error b) → a ≡ b
 error_once a b e = cc
 
