@@ -1,7 +1,10 @@
+pub mod LaterRounds
 pub mod LineLemmas
 pub mod LineSplit
 pub mod NumberLemmas
 pub mod OneRound
+pub mod OneTable
 pub mod PlaceLemmas
+pub mod ReadBack
 pub mod Rising
 pub mod RowLemmas

@@ -42,7 +42,7 @@ parsed n text read found parses is s = is ∙ ap (λ r. result_ok r) (parse-deci
 itself : (byte : ℕ) → is_other byte byte ≡ true → ⊥
 itself byte h = grind arith
 
-pauses : (byte : ℕ) (rest : List ℕ) → Pauses (is_other byte) (byte ∷ rest)
+pub pauses : (byte : ℕ) (rest : List ℕ) → Pauses (is_other byte) (byte ∷ rest)
 pauses byte rest = grind arith
 
 pub cut_is : (byte b : ℕ) (text front rest behind : List ℕ) → IsSpan (is_other byte) text front rest → rest ≡ b ∷ behind → IsCut byte text front behind
@@ -57,7 +57,7 @@ cut_is byte b text front rest behind s e =
     same_byte : is_other byte b ≡ false → b ≡ byte
     same_byte h = grind arith
 
-has_byte : (byte : ℕ) (front rest : List ℕ) → list_all (is_other byte) (front ++ byte ∷ rest) ≡ true → ⊥
+pub has_byte : (byte : ℕ) (front rest : List ℕ) → list_all (is_other byte) (front ++ byte ∷ rest) ≡ true → ⊥
 has_byte byte [] rest h = itself byte (and_parts (is_other byte byte) (list_all (is_other byte) rest) h).0
 has_byte byte (x ∷ front) rest h = has_byte byte front rest (and_parts (is_other byte x) (list_all (is_other byte) (front ++ byte ∷ rest)) h).1
 
@@ -90,7 +90,7 @@ after text m rest n b hm hn e g = one_first m n rest b hm hn (sym e ∙ g)
 
 -- ---- prefixes
 
-len_small : (f : Family) (n : ℕ) → n ≤ bits_of f → n < 2 ^ 32
+pub len_small : (f : Family) (n : ℕ) → n ≤ bits_of f → n < 2 ^ 32
 len_small V4 n h = omega arith
 len_small V6 n h = omega arith
 
@@ -101,7 +101,7 @@ pub address_others : (byte : ℕ) (f : Family) (p : Cidr) → is_address_byte by
 address_others byte f p fails h =
     weaker is_address_byte (is_other byte) (keeps_out is_address_byte byte fails) (text_in f p.start) (one_address.bytes f (text_in f p.start) p.start (spelled f p h))
 
-prefix_parts : (f : Family) (p : Cidr) (text address len : List ℕ) → IsCut 47 text address len → SpellsPrefix f text p → (text_in f p.start ≡ address) × (decimal p.len ≡ len)
+pub prefix_parts : (f : Family) (p : Cidr) (text address len : List ℕ) → IsCut 47 text address len → SpellsPrefix f text p → (text_in f p.start ≡ address) × (decimal p.len ≡ len)
 prefix_parts f p text address len c s = cut_same 47 text address len (text_in f p.start) (decimal p.len) c (address_others 47 f p refl s.prefix) s.written
 
 pub no_prefix_address : (f : Family) (text address len : List ℕ) → IsCut 47 text address len → ((n : ℕ) → ¬ SpellsIn f address n) → (p : Cidr) → SpellsPrefix f text p → ⊥
@@ -138,13 +138,13 @@ prefix_other f bits start n q text address len written e c spells h is w differs
 
 -- ---- rows
 
-abbrev needs_tail : Needs → List ℕ
+abbrev pub needs_tail : Needs → List ℕ
 needs_tail n = decimal n.fail ++ 32 ∷ (decimal n.softfail ++ 32 ∷ (decimal n.pass ++ 32 ∷ decimal n.neutral))
 
-regroup : (w a l f s p n : List ℕ) → ((w ++ a) ++ 47 ∷ l) ++ ((((32 ∷ f) ++ 32 ∷ s) ++ 32 ∷ p) ++ 32 ∷ n) ≡ w ++ ((a ++ 47 ∷ l) ++ 32 ∷ (f ++ 32 ∷ (s ++ 32 ∷ (p ++ 32 ∷ n))))
+pub regroup : (w a l f s p n : List ℕ) → ((w ++ a) ++ 47 ∷ l) ++ ((((32 ∷ f) ++ 32 ∷ s) ++ 32 ∷ p) ++ 32 ∷ n) ≡ w ++ ((a ++ 47 ∷ l) ++ 32 ∷ (f ++ 32 ∷ (s ++ 32 ∷ (p ++ 32 ∷ n))))
 regroup w a l f s p n = simp append_assoc
 
-row_whole : (f : Family) (line : List ℕ) (row : NeedRow) → SpellsRow f line row → line ≡ codes "; row " ++ ((text_in f row.prefix.start ++ 47 ∷ decimal row.prefix.len) ++ 32 ∷ needs_tail row.needs)
+pub row_whole : (f : Family) (line : List ℕ) (row : NeedRow) → SpellsRow f line row → line ≡ codes "; row " ++ ((text_in f row.prefix.start ++ 47 ∷ decimal row.prefix.len) ++ 32 ∷ needs_tail row.needs)
 row_whole f line row s =
     append_cancel_right line (((codes "; row " ++ text_in f row.prefix.start) ++ 47 ∷ decimal row.prefix.len) ++ needs_text row.needs) (10 ∷ []) s.written
     ∙ regroup (codes "; row ") (text_in f row.prefix.start) (decimal row.prefix.len) (decimal row.needs.fail) (decimal row.needs.softfail) (decimal row.needs.pass) (decimal row.needs.neutral)
@@ -155,7 +155,7 @@ row_begins f line row s = ((text_in f row.prefix.start ++ 47 ∷ decimal row.pre
 pub no_row_word : (f : Family) (line : List ℕ) → ((rest : List ℕ) → ¬ (line ≡ codes "; row " ++ rest)) → (row : NeedRow) → SpellsRow f line row → ⊥
 no_row_word f line none row s = none ((text_in f row.prefix.start ++ 47 ∷ decimal row.prefix.len) ++ 32 ∷ needs_tail row.needs) (row_whole f line row s)
 
-row_parts : (f : Family) (line rest front needs : List ℕ) (row : NeedRow) → line ≡ codes "; row " ++ rest → IsCut 32 rest front needs → SpellsRow f line row → SpellsPrefix f front row.prefix × SpellsNeeds needs row.needs
+pub row_parts : (f : Family) (line rest front needs : List ℕ) (row : NeedRow) → line ≡ codes "; row " ++ rest → IsCut 32 rest front needs → SpellsRow f line row → SpellsPrefix f front row.prefix × SpellsNeeds needs row.needs
 row_parts f line rest front needs row e c s =
     let prefix : List ℕ = text_in f row.prefix.start ++ 47 ∷ decimal row.prefix.len in
     let same : rest ≡ prefix ++ 32 ∷ needs_tail row.needs = append_cancel_left (codes "; row ") rest (prefix ++ 32 ∷ needs_tail row.needs) (sym e ∙ row_whole f line row s) in

@@ -8,7 +8,7 @@ use Rattle.bound_table.specs.Parts.{is_other, IsCut}
 use Rattle.bound_table.specs.Reading.{in_front, lines_of}
 
 -- a line feed ends the first line
-ended : (front rest : List ℕ) → list_all (is_other 10) front ≡ true → lines_of (front ++ 10 ∷ rest) ≡ front ∷ lines_of rest
+pub ended : (front rest : List ℕ) → list_all (is_other 10) front ≡ true → lines_of (front ++ 10 ∷ rest) ≡ front ∷ lines_of rest
 unfolding lines_of
 ended [] rest h = refl
 ended (x ∷ front) rest h =

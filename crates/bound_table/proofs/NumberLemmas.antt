@@ -1,5 +1,5 @@
 -- The first row with wrong numbers.
-use Rattle.std.proofs.Common.{◌≡◌, ℕ, zero, suc, ◌+◌, ◌-◌, ◌*◌, ◌/◌, ◌^◌, ◌<◌, ◌≤◌, min, true, false, List, [], ◌∷◌, ◌++◌, map, drop, length, get_or, refl, sym, ◌∙◌, ap, ap₂, subst, ◌⊎◌, inl, inr, Option, Some, None, arith, append_assoc, append-nil, take, length-append, length-drop, drop-cons}
+use Rattle.std.proofs.Common.{◌≡◌, ℕ, zero, suc, ◌+◌, ◌-◌, ◌*◌, ◌^◌, ◌<◌, ◌≤◌, min, true, false, List, [], ◌∷◌, ◌++◌, drop, length, get_or, refl, sym, ◌∙◌, ap, ap₂, subst, ◌⊎◌, inl, inr, Option, Some, None, arith, append_assoc, append-nil, take, length-append, drop-cons}
 use Rattle.std.proofs.lemmas.Bool.{cases_lt, cases_order, cases_Bool, false≢true}
 use Rattle.std.proofs.lemmas.List.{drop-drop, drop_at, take-append-drop}
 use Rattle.addr_bits.specs.Blocks.{lowest, prefix_of}
@@ -18,11 +18,11 @@ use Rattle.fewest_terms.specs.Tables.{claimed, claimed_of_halves, claimed_total,
 use Rattle.fewest_terms.specs.Totals.{least_with_all}
 use Rattle.fewest_terms.specs.Verdicts.{cost, least}
 use Rattle.fewest_terms.proofs.Mixed.{need-plain}
-use Rattle.fewest_terms.proofs.TableLemmas.{claimed-mixed, claimed-plain, length-mixed_prefixes, map-drop, mixed_prefixes-mixed, own, to_own}
+use Rattle.fewest_terms.proofs.TableLemmas.{claimed-mixed, claimed-plain, length-mixed_prefixes, mixed_prefixes-mixed, own, to_own}
 use Rattle.fewest_terms.proofs.VerdictLemmas.{cost-le, least-le}
 use Rattle.fewest_terms.proofs.WalkLemmas.{alone_read, bits_all, halves_read, high_bits_at, leaf_read, mixed_count-plain, Halves}
 use Rattle.bound_table.specs.declared.table.Table.{Table}
-use Rattle.bound_table.specs.Judging.{claimed_at, mixed_at, prefixes_of, AreInOrder, IsFirstWrong, IsMiscountedAnswer, IsRight, RightAt, RowsBeginAt, WrongAt}
+use Rattle.bound_table.specs.Judging.{claimed_at, mixed_at, prefixes_of, AreInOrder, IsFirstWrong, IsMiscountedAnswer, IsRight, RightAt, RowsBeginAt}
 use Rattle.bound_table.specs.Parts.{AreSmall}
 use Rattle.bound_table.specs.Placed.{PlacedRow, LinesRise, HasRisingLines, line_at, rows_of}
 use Rattle.bound_table.specs.Rounds.{IsMiscounted, IsRowWrong}

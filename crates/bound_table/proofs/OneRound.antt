@@ -12,12 +12,12 @@ use Rattle.bound_table.specs.Reading.{is_table_line, AreTable, HaveRows, HasNoEn
 use Rattle.bound_table.proofs.LineLemmas.{row_begins, total_whole}
 
 -- a table line that is no row
-record Stops (line : List ℕ) : Type 0 where
-  of_table : is_table_line line ≡ true
-  no_row : (f : Family) (row : NeedRow) → ¬ SpellsRow f line row
+pub record Stops (line : List ℕ) : Type 0 where
+  pub of_table : is_table_line line ≡ true
+  pub no_row : (f : Family) (row : NeedRow) → ¬ SpellsRow f line row
 
 -- no line is such a line
-abbrev AllGo : List (List ℕ) → Type 0
+abbrev pub AllGo : List (List ℕ) → Type 0
 AllGo [] = Unit {0}
 AllGo (line ∷ lines) = (¬ Stops line) × AllGo lines
 
@@ -27,7 +27,7 @@ other_goes line h s = both_ways (is_table_line line) h s.of_table
 row_goes : (line : List ℕ) (f : Family) (row : NeedRow) → SpellsRow f line row → Stops line → ⊥
 row_goes line f row r s = s.no_row f row r
 
-all_go : (from : ℕ) (lines : List (List ℕ)) (r4 r6 : List PlacedRow) → HaveRows from lines r4 r6 → AllGo lines
+pub all_go : (from : ℕ) (lines : List (List ℕ)) (r4 r6 : List PlacedRow) → HaveRows from lines r4 r6 → AllGo lines
 all_go from [] r4 r6 h = tt
 all_go from (x ∷ xs) r4 r6 (inl h) = (other_goes x h.0, all_go (from + 1) xs r4 r6 h.1)
 all_go from (x ∷ xs) r4 r6 (inr (inl h)) = (row_goes x V4 h.0 h.2, all_go (from + 1) xs h.1 r6 h.4)
@@ -38,7 +38,7 @@ abbrev third : List ℕ → ℕ
 third (a ∷ b ∷ c ∷ rest) = c
 third _ = 0
 
-total_stops : (line : List ℕ) (total : ℕ) → SpellsTotal line total → Stops line
+pub total_stops : (line : List ℕ) (total : ℕ) → SpellsTotal line total → Stops line
 total_stops line total s =
     let e : line ≡ codes "; fewest " ++ decimal total = total_whole line total s in
     record {
@@ -54,13 +54,13 @@ faulty_stops line back h (inl nothing) = record { of_table = h; no_row = nothing
 faulty_stops line back h (inr more) = total_stops line more.0 more.1
 
 -- the first such line is one
-first_of : {A : Type 0} {x y : A} {xs ys : List A} → x ∷ xs ≡ y ∷ ys → x ≡ y
+pub first_of : {A : Type 0} {x y : A} {xs ys : List A} → x ∷ xs ≡ y ∷ ys → x ≡ y
 first_of e = cc
 
-rest_of : {A : Type 0} {x y : A} {xs ys : List A} → x ∷ xs ≡ y ∷ ys → xs ≡ ys
+pub rest_of : {A : Type 0} {x y : A} {xs ys : List A} → x ∷ xs ≡ y ∷ ys → xs ≡ ys
 rest_of e = cc
 
-same_stop : (f g : List (List ℕ)) (t u : List ℕ) (b d : List (List ℕ)) → AllGo f → AllGo g → Stops t → Stops u → f ++ t ∷ b ≡ g ++ u ∷ d → (length f ≡ length g) × (t ≡ u) × (b ≡ d)
+pub same_stop : (f g : List (List ℕ)) (t u : List ℕ) (b d : List (List ℕ)) → AllGo f → AllGo g → Stops t → Stops u → f ++ t ∷ b ≡ g ++ u ∷ d → (length f ≡ length g) × (t ≡ u) × (b ≡ d)
 same_stop [] [] t u b d hf hg st su e = (refl, first_of e, rest_of e)
 same_stop [] (y ∷ g) t u b d hf hg st su e = absurd (hg.0 (subst Stops (first_of e) st))
 same_stop (x ∷ f) [] t u b d hf hg st su e = absurd (hf.0 (subst Stops (sym (first_of e)) su))

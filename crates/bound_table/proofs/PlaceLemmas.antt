@@ -1,16 +1,15 @@
 -- The first table line that is not the one which must stand there.
-use Rattle.std.proofs.Common.{◌≡◌, ◌≢◌, ℕ, zero, suc, ◌+◌, ◌<◌, ◌≤◌, nat_lt, true, false, cond, List, [], ◌∷◌, ◌++◌, map, length, refl, sym, ◌∙◌, ap, ap₂, subst, ◌⊎◌, inl, inr, Option, Some, None, arith, le_refl, lt-ltb, le-ltb, length-append, get_or}
+use Rattle.std.proofs.Common.{◌≡◌, ℕ, zero, suc, ◌+◌, ◌<◌, ◌≤◌, nat_lt, cond, List, [], ◌∷◌, map, length, refl, sym, ◌∙◌, ap, ap₂, subst, ◌⊎◌, inl, inr, Option, Some, None, arith, le_refl, lt-ltb, le-ltb, length-append}
 use Rattle.std.proofs.lemmas.Bool.{cases_lt, cases_order}
-use Rattle.std.proofs.lemmas.List.{length-map}
 use Rattle.std.proofs.lemmas.List.Sums.{sum_by-cons}
 use Rattle.std.proofs.lemmas.Option.{slice_get_within, slice_get-get_or}
 use Rattle.std.specs.List.{Contains, slice_get}
 use Rattle.addr_bits.specs.Prefix.{Cidr}
 use Rattle.addr_bits.specs.declared.address.Family.{Family}
 use Rattle.addr_bits.specs.declared.address.Family.TheVariants.{V4, V6}
-use Rattle.bound_table.specs.Placed.{PlacedRow, LinesRise, HasRisingLines, line_at, rows_of}
-use Rattle.bound_table.specs.Rounds.{in_order, rows_before, IsFirst, IsMisplaced, IsRowMisplaced, IsTotalMisplaced}
-use Rattle.bound_table.specs.Judging.{prefixes_of, AgreeAt, AreInOrder, IsMisplacedAnswer}
+use Rattle.bound_table.specs.Placed.{PlacedRow, LinesRise, HasRisingLines, line_at}
+use Rattle.bound_table.specs.Rounds.{in_order, rows_before, IsFirst, IsMisplaced, IsRowMisplaced}
+use Rattle.bound_table.specs.Judging.{prefixes_of, AgreeAt, IsMisplacedAnswer}
 
 -- ---- places in lists
 

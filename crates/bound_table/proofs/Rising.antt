@@ -1,10 +1,11 @@
 -- The lines of the rows that are read rise.
-use Rattle.std.proofs.Common.{◌≡◌, ◌≢◌, ℕ, zero, suc, ◌+◌, ◌<◌, ◌≤◌, List, [], ◌∷◌, ◌++◌, length, refl, sym, ◌∙◌, ap, subst, ◌⊎◌, inl, inr, arith}
+use Rattle.std.proofs.Common.{◌≡◌, ◌≢◌, ℕ, ◌+◌, ◌≤◌, List, [], ◌∷◌, length, refl, sym, ap, subst, ◌⊎◌, inl, inr, Some, Ok, arith}
 use Rattle.std.proofs.lemmas.List.Elements.{Contains-append_cases, Contains-push_cases}
 use Rattle.std.specs.List.{Contains}
-use Rattle.addr_bits.specs.declared.address.Family.TheVariants.{V4, V6}
 use Rattle.bound_table.specs.Placed.{PlacedRow, LinesRise, HasRisingLines, line_at}
 use Rattle.bound_table.specs.Reading.{HaveRows, AreTable}
+use Rattle.bound_table.specs.Answers.{IsStep}
+use Rattle.bound_table.proofs.RowLemmas.{AreRead}
 
 -- an element is the first or one of the others
 pub first_or_other : {X : Type 0} (x : X) (xs : List X) (y : X) → Contains (x ∷ xs) y → (x ≡ y) ⊎ Contains xs y
@@ -74,3 +75,8 @@ pub table_rises : (lines : List (List ℕ)) (r4 r6 : List PlacedRow) (total last
 table_rises lines r4 r6 total last t =
     let r = lines_rise 1 last t.front r4 r6 (omega (arith, t.place)) t.rows in
     record { four = r.rise4; six = r.rise6; apart = r.apart }
+
+pub read_rises : (lines rest : List (List ℕ)) (text : List ℕ) (r4 r6 n4 n6 : List PlacedRow) (line total : ℕ) → AreRead lines rest r4 r6 line → IsStep (line + 1) text r4 r6 n4 n6 (Ok (Some total)) → HasRisingLines n4 n6 (line + 1)
+read_rises lines rest text r4 r6 n4 n6 line total h s =
+    let r = lines_rise 1 (line + 1) h.front r4 r6 (omega (arith, h.count)) h.rows in
+    subst (λ t. HasRisingLines t n6 (line + 1)) (sym s.2) (subst (λ t. HasRisingLines r4 t (line + 1)) (sym s.3) (record { four = r.rise4; six = r.rise6; apart = r.apart }))

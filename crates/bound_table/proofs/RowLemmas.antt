@@ -11,7 +11,7 @@ use Rattle.bound_table.specs.Reading.{is_table_line, HaveRows, AreTable, IsMissp
 use Rattle.bound_table.specs.Answers.{IsStep, IsTableAnswer}
 
 -- rows behind rows
-and_then : (from : ℕ) (xs ys : List (List ℕ)) (a4 a6 b4 b6 : List PlacedRow) → HaveRows from xs a4 a6 → HaveRows (from + length xs) ys b4 b6 → HaveRows from (xs ++ ys) (a4 ++ b4) (a6 ++ b6)
+pub and_then : (from : ℕ) (xs ys : List (List ℕ)) (a4 a6 b4 b6 : List PlacedRow) → HaveRows from xs a4 a6 → HaveRows (from + length xs) ys b4 b6 → HaveRows from (xs ++ ys) (a4 ++ b4) (a6 ++ b6)
 and_then from [] ys a4 a6 b4 b6 h g =
     let e : from + 0 ≡ from = omega arith in
     subst (λ t. HaveRows from ys (t ++ b4) (a6 ++ b6)) (sym h.0) (subst (λ t. HaveRows from ys b4 (t ++ b6)) (sym h.1) (subst (λ n. HaveRows n ys b4 b6) e g))

@@ -1,5 +1,5 @@
 -- What the parts of the later rounds answer: the project's own choice.
-use Rattle.std.specs.Prelude.{ℕ, ◌≡◌, ◌+◌, ◌-◌, ◌<◌, ◌≤◌, ◌^◌, List, ◌∷◌, ◌++◌, map, drop, Option, Some, None}
+use Rattle.std.specs.Prelude.{ℕ, ◌≡◌, ◌-◌, ◌<◌, ◌≤◌, ◌^◌, List, ◌∷◌, ◌++◌, map, drop, Option, Some, None}
 use Rattle.std.specs.List.{Contains, slice_get}
 use Rattle.addr_bits.specs.Prefix.{Cidr}
 use Rattle.spf_grammar.specs.declared.verdict.Verdict.{Verdict}

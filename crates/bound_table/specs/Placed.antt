@@ -1,5 +1,5 @@
 -- Rows and their lines as contracts see them: the project's own choice.
-use Rattle.std.specs.Prelude.{ℕ, zero, suc, ◌≡◌, ◌≢◌, ◌+◌, ◌<◌, List, [], ◌∷◌, map}
+use Rattle.std.specs.Prelude.{ℕ, zero, suc, ◌≢◌, ◌+◌, ◌<◌, List, [], ◌∷◌, map}
 use Rattle.std.specs.List.{Contains}
 use Rattle.fewest_terms.specs.Row.{NeedRow}
 

@@ -6,7 +6,6 @@ use Rattle.addr_bits.specs.Prefix.{Cidr}
 use Rattle.addr_bits.specs.declared.address.Family.{Family}
 use Rattle.addr_bits.specs.declared.address.Family.TheVariants.{V4, V6}
 use Rattle.spf_grammar.specs.declared.verdict.Verdict.{Verdict}
-use Rattle.fewest_terms.specs.Row.{NeedRow}
 use Rattle.fewest_terms.specs.Tables.{mixed_prefixes, KeepsRowRule, claimed_total, IsGoodTable}
 use Rattle.bound_table.specs.Parts.{AreSmall}
 use Rattle.bound_table.specs.Placed.{PlacedRow, rows_of}

@@ -11,7 +11,10 @@ mod rounds;
 mod table;
 
 pub use check::check_row;
-pub use laws::{one_first_round, table_bounds};
+pub use laws::{
+    checked_table_bounds, one_first_round, one_later_round, one_table, table_bounds,
+    written_is_read,
+};
 pub use lines::{append_table, write_table};
 pub use rounds::check_table;
 pub use table::{LineRow, LineRows, Table, TableFault, read_table};

@@ -152,7 +152,6 @@ fn read_step(
 
 /// The table of a file: the first of three rounds, which judges how its lines are spelled, and that one line for the
 /// total stands last. The work grows with the bytes.
-#[tactic(auto, using(crate::proofs::Rising::table_rises))]
 pub fn read_table(alloc: Global, bytes: &[u8]) -> Result<Table, TableFault>
     ensures table { IsTableAnswer (lines_of bytes.now) result }
     ensures rising { IfOk result (λ t. HasRisingLines t.rows4 t.rows6 t.last) }

@@ -1,15 +1,13 @@
-use Rattle.std.proofs.Common.{rules, ◌≡◌, ◌+◌, ◌<◌, ◌≤◌, ℕ, Option, None, Some, List, length, drop, suc, refl, sym, ◌∙◌, ap, subst, ◌⊎◌, inl, inr, arith, le_refl}
+use Rattle.std.proofs.Common.{rules, ◌≡◌, ◌<◌, ◌≤◌, ℕ, Option, None, Some, drop, refl, sym, ◌∙◌, ap, subst, ◌⊎◌, inl, inr, arith}
 use Rattle.std.proofs.lemmas.Bool.{both_ways}
 use Rattle.std.specs.Option.{option_or}
-use Rattle.addr_bits.specs.Prefix.{Cidr}
 use Rattle.fewest_terms.specs.Row.{NeedRow}
-use Rattle.spf_grammar.specs.declared.verdict.Verdict.{Verdict}
 use Rattle.fewest_terms.specs.Leaves.{verdict_at}
 use Rattle.fewest_terms.proofs.WalkLemmas.{within_at, high_begins}
 use Rattle.fewest_terms.proofs.ChooseLemmas.{leaf_end}
 use Rattle.bound_table.specs.Judging.{IsFirstWrong}
 use Rattle.bound_table.specs.Placed.{PlacedRow}
-use Rattle.bound_table.proofs.NumberLemmas.{step, low_begins, high_rows, row_whole, row_claims, leaf_claims, leaf_mixed, leaf_leaves, the_row, judges, none_wrong, own_right, own_wrong}
+use Rattle.bound_table.proofs.NumberLemmas.{step, low_begins, high_rows, row_whole, row_claims, leaf_claims, leaf_mixed, leaf_leaves, the_row, judges, own_right, own_wrong}
 use Rattle.bound_table.proofs.numbers.+judge.Goals.{then-keeps, else-keeps}
 use Rattle.bound_table.proofs.numbers.+judge.Goals as goal
 

@@ -1,10 +1,9 @@
-use Rattle.std.proofs.Common.{◌≡◌, ◌++◌, [], length, sym, ◌∙◌, ap, ap₂, subst, append-nil, arith}
+use Rattle.std.proofs.Common.{◌≡◌, length, ◌∙◌, ap₂, subst, arith}
 use Rattle.std.proofs.Math.Nat.{sub-zero}
-use Rattle.addr_bits.specs.Prefix.{Cidr}
 use Rattle.fewest_terms.specs.Leaves.{verdict_at}
-use Rattle.fewest_terms.specs.Tables.{claimed, mixed_prefixes}
+use Rattle.fewest_terms.specs.Tables.{claimed}
 use Rattle.fewest_terms.proofs.WalkLemmas.{begin_all, bits_all}
-use Rattle.bound_table.specs.Judging.{mixed_at, prefixes_of, IsFirstWrong}
+use Rattle.bound_table.specs.Judging.{IsFirstWrong}
 use Rattle.bound_table.specs.Placed.{rows_of}
 use Rattle.bound_table.proofs.NumberLemmas.{all_begin, all_mixed}
 use Rattle.bound_table.proofs.numbers.judge_all.Goals as goal

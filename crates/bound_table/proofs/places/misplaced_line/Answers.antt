@@ -1,4 +1,4 @@
-use Rattle.std.proofs.Common.{◌≡◌, ◌<◌, ◌≤◌, length, List, sym, ◌∙◌, subst, ◌⊎◌, inl, inr, None, arith}
+use Rattle.std.proofs.Common.{◌≡◌, ◌<◌, ◌≤◌, length, List, sym, subst, ◌⊎◌, inl, inr, None, arith}
 use Rattle.std.proofs.lemmas.Bool.{both_ways}
 use Rattle.bound_table.specs.Judging.{AgreeAt, IsMisplacedAnswer}
 use Rattle.bound_table.specs.Placed.{PlacedRow, HasRisingLines, line_at}

@@ -1,8 +1,7 @@
-use Rattle.std.proofs.Common.{◌≡◌, None, Some, ◌∙◌, sym, subst, inr}
-use Rattle.addr_bits.specs.Prefix.{Cidr}
+use Rattle.std.proofs.Common.{◌≡◌, None, ◌∙◌, subst, inr}
 use Rattle.fewest_terms.specs.Leaves.{verdict_at}
 use Rattle.fewest_terms.specs.Tables.{mixed_prefixes}
-use Rattle.bound_table.specs.Judging.{IsMisplacedAnswer, IsMiscountedAnswer}
+use Rattle.bound_table.specs.Judging.{IsMisplacedAnswer}
 use Rattle.bound_table.proofs.rounds.check_by_leaves.Goals as goal
 
 pub returns-in-Some-miscounted_line : goal.returns-in-Some-miscounted_line
