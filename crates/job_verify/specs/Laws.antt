@@ -26,8 +26,8 @@ use Rattle.cert_checker.specs.declared.answer.No.TheVariants as no
 use Rattle.cert_checker.specs.declared.answer.Yes.{Yes}
 use Rattle.cert_checker.specs.Certified.{IsCertified}
 use Rattle.cert_checker.specs.Forms.{AreLinked, ReadChain, name_at, terms_of}
-use Rattle.cert_checker.proofs.OneAnswer.{one_reason, no_reason_beside_yes}
 use Rattle.cert_checker.proofs.OneChain.{one_lists}
+use Rattle.cert_checker.proofs.OneReason.{one_reason, no_reason_beside_yes}
 use Rattle.jobs.specs.Meaning.{Due, Refuses, Gives, IsLawful}
 use Rattle.jobs.specs.declared.output.Output.{Output}
 use Rattle.job_verify.specs.Meaning.{IsAccepted, IsDenied, VerifyDue, accepted, denied, IsReady, meaning_of_verify}
