@@ -1,8 +1,8 @@
 -- The names of the records of a chain, and what is left of them.
-use Rattle.std.proofs.Common.{◌≡◌, ℕ, ◌+◌, ◌-◌, ◌<◌, ◌≤◌, ◌==◌, Bool, true, false, cond, IsTrue, List, [], ◌∷◌, ◌++◌, length, drop, get_or, refl, sym, ap, ◌∙◌, subst, arith, add-one, drop-cons, drop_of_length-le, Option, Some, None, ◌↔◌}
+use Rattle.std.proofs.Common.{◌≡◌, ℕ, ◌+◌, ◌-◌, ◌<◌, ◌≤◌, ◌==◌, Bool, true, false, cond, IsTrue, List, [], ◌∷◌, ◌++◌, length, drop, get_or, refl, sym, ap, ◌∙◌, subst, arith, add-one, drop-cons, Option, Some, None, MatchOption, ap₂, true≢false, bytes_eq}
 use Rattle.std.specs.Prelude.{decimal, slice_get}
 use Rattle.std.proofs.lemmas.Fmt.{decimal_digit}
-use Rattle.std.proofs.lemmas.List.{append_cancel_right}
+use Rattle.std.proofs.lemmas.List.{append_cancel_left, append_cancel_right}
 use Rattle.std.specs.List.{concat}
 use Rattle.std.specs.Borrow.{Bor}
 use Rattle.dns_name.specs.Name.{first_label_of, parent_of}
@@ -13,8 +13,12 @@ use Rattle.spf_model.specs.Chains.{all_terms}
 use Rattle.spf_model.specs.Check.{text_of}
 use Rattle.spf_model.specs.Judging.{Labels}
 use Rattle.zone_writer.specs.Written.{record_owner}
+use Rattle.std.proofs.lemmas.Slice.Eq.{bytes_eq-Decides}
+use Rattle.zone_answers.specs.Same.{same_name}
+use Rattle.zone_answers.proofs.Nodes.{same_self, same_true}
 use Rattle.published_records.proofs.StandingRecords.{owner_first, owner_later}
-use Rattle.cert_checker.specs.Forms.{HasChainForm, HaveOwners, TextFits, TextsFit}
+use Rattle.cert_checker.specs.Forms.{AreLinked, HasChainForm, HaveOwners, TextFits, TextsFit}
+use Rattle.cert_checker.specs.Judging.{IsLabelAnswer}
 
 pub next_item : {X : Type 0} (xs : List X) (i : ℕ) (x : X) → i < length xs → x ≡ get_or xs i x → drop i xs ≡ x ∷ drop (i + 1) xs
 next_item xs i x within e = rw (add-one, drop-cons xs i x within, ← e) refl
@@ -102,3 +106,52 @@ no_cut name records second first is told none label own = none label (some_same 
 
 pub no_first : (name : Labels) (records : List Record) (second : Record) → slice_get records 1 ≡ Some second → first_label_of second.owner ≡ None → (label : List ℕ) → HaveOwners name label 0 records → ⊥
 no_first name records second is told label own = some_none (sym (second_label name label [] records second is own) ∙ told)
+
+pub label_cases : (name : Labels) (records : List Record) (second : Record) (first : List ℕ) (result : Option (Bor (List ℕ))) → slice_get records 1 ≡ Some second
+    → first_label_of second.owner ≡ Some first → MatchOption result ((front : List ℕ) → ¬ (first ≡ front ++ 49 ∷ [])) (λ r. first ≡ r.now ++ 49 ∷ []) → IsLabelAnswer name records result
+label_cases name records second first None is told none = no_cut name records second first is told none
+label_cases name records second first (Some found) is told cut = label_second name records second first found.now is told cut
+
+-- ---- one name
+
+pub numbered_so : (first label rest digits : List ℕ) (number : ℕ) (b : Bool) → first ≡ label ++ rest → digits ≡ decimal number → b ≡ bytes_eq rest digits
+    → (IsTrue b → first ≡ label ++ decimal number) × (first ≡ label ++ decimal number → IsTrue b)
+numbered_so first label rest digits number b whole is same =
+    (λ t. whole ∙ ap (λ l. label ++ l) ((bytes_eq-Decides rest digits).0 (sym same ∙ t) ∙ is),
+    λ e. same ∙ (bytes_eq-Decides rest digits).1 (append_cancel_left label rest digits (sym whole ∙ e ∙ ap (λ l. label ++ l) (sym is))))
+
+pub numbered_not : (first label : List ℕ) (number : ℕ) → ((rest : List ℕ) → ¬ (first ≡ label ++ rest)) → (IsTrue false → first ≡ label ++ decimal number) × (first ≡ label ++ decimal number → IsTrue false)
+numbered_not first label number none = (λ f. absurd (true≢false (sym f)), λ e. absurd (none (decimal number) e))
+
+pub owner_zero : (owner name : Labels) (label : List ℕ) (number : ℕ) (b : Bool) → (number == 0) ≡ true → b ≡ same_name owner name
+    → (IsTrue b → owner ≡ record_owner name label number) × (owner ≡ record_owner name label number → IsTrue b)
+owner_zero owner name label number b zero same =
+    (λ t. same_true owner name (sym same ∙ t) ∙ sym (owner_first name label number zero), λ e. same ∙ same_self owner name (e ∙ owner_first name label number zero))
+
+owner_is : (owner above : Labels) (first : List ℕ) → first_label_of owner ≡ Some first → parent_of owner ≡ Some above → owner ≡ first ∷ above
+owner_is [] above first f p = absurd (some_none (sym f))
+owner_is (l ∷ n) above first f p = ap₂ (λ (x : List ℕ) (xs : Labels). x ∷ xs) (some_same f) (some_same p)
+
+tails : {X : Type 0} {x y : X} {xs ys : List X} → x ∷ xs ≡ y ∷ ys → xs ≡ ys
+tails e = cc
+
+pub owner_parts : (owner name above : Labels) (label first : List ℕ) (number : ℕ) (b : Bool) → (number == 0) ≡ false → first_label_of owner ≡ Some first → parent_of owner ≡ Some above → above ≡ name
+    → (IsTrue b → first ≡ label ++ decimal number) × (first ≡ label ++ decimal number → IsTrue b)
+    → (IsTrue b → owner ≡ record_owner name label number) × (owner ≡ record_owner name label number → IsTrue b)
+owner_parts owner name above label first number b some f p same both =
+    let whole : owner ≡ first ∷ above = owner_is owner above first f p in
+    (λ t. whole ∙ ap₂ (λ (x : List ℕ) (xs : Labels). x ∷ xs) (both.0 t) same ∙ sym (owner_later name label number some),
+    λ e. both.1 (heads (sym whole ∙ e ∙ owner_later name label number some)))
+
+pub owner_other : (owner name above : Labels) (label first : List ℕ) (number : ℕ) (b : Bool) → (number == 0) ≡ false → first_label_of owner ≡ Some first → parent_of owner ≡ Some above
+    → b ≡ same_name above name → b ≡ false → (IsTrue b → owner ≡ record_owner name label number) × (owner ≡ record_owner name label number → IsTrue b)
+owner_other owner name above label first number b some f p same no =
+    let whole : owner ≡ first ∷ above = owner_is owner above first f p in
+    (λ t. absurd (true≢false (sym t ∙ no)), λ e. same ∙ same_self above name (tails (sym whole ∙ e ∙ owner_later name label number some)))
+
+-- ---- the whole
+
+pub chain_so : (name : Labels) (records : List Record) (label : List ℕ) (lists : List (List FlatTerm)) (list : List FlatTerm) → length records ≤ 11 → IsTrue (is_label label)
+    → HaveOwners name label 0 records → AreLinked records lists → list ≡ all_terms lists
+    → (found : List (List FlatTerm)) × HasChainForm name records label found × (list ≡ all_terms found)
+chain_so name records label lists list few form owners linked is = (lists, record { few = few; labelled = form; owners = owners; linked = linked }, is)

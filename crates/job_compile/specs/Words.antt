@@ -4,8 +4,9 @@ use Rattle.spfc_words.specs.Inputs.{AreZoneInputs}
 use Rattle.spfc_words.specs.Limits.{AreLimits, lookups_option, voids_option, exchanges_option}
 use Rattle.spfc_words.specs.Options.{behind_options}
 use Rattle.spfc_words.specs.Rows.{OptionRow}
+use Rattle.spfc_words.specs.Size.{size_option}
 use Rattle.spfc_words.specs.declared.input.Group.TheVariants.{Zones}
-use Rattle.publishing.specs.Settings.{AreSettings, size_option, ttl_option, label_option}
+use Rattle.publishing.specs.Settings.{AreSettings, ttl_option, label_option}
 use Rattle.job_compile.specs.declared.compile.Compile.{Compile}
 
 -- the options of the job: those of the reading limits, and of a chain of records

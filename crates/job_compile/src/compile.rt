@@ -6,10 +6,10 @@ ghost use Rattle.job_compile.specs.Words.{SpellsCompile};
 
 use jobs::{Job, Output};
 use loading::{Loaded, OrMemory, Refusal};
-use publishing::{ChainSettings, LABEL, SIZE, TTL, publish_policy, read_settings};
+use publishing::{ChainSettings, LABEL, TTL, publish_policy, read_settings};
 use spf_model::Limits;
 use spfc_words::{
-    EXCHANGES, Group, Input, Inputs, LOOKUPS, Row, VOIDS, behind_options, push_zone_words,
+    EXCHANGES, Group, Input, Inputs, LOOKUPS, Row, SIZE, VOIDS, behind_options, push_zone_words,
     read_limits, split_first,
 };
 use std::alloc::{AllocError, Global};

@@ -45,8 +45,12 @@ kind_word kinds.Dname = codes "Dname"
 kind_word kinds.TypeNumber = codes "TypeNumber"
 kind_word kinds.UnknownDirective = codes "UnknownDirective"
 
+-- where the first fault of a file is, and of which kind
+abbrev pub fault_text : (line : ℕ) → Kind → List ℕ
+fault_text line kind = spaced (decimal line) (kind_word kind)
+
 abbrev pub bad_zone_line : (file : List ℕ) → (line : ℕ) → Kind → List ℕ
-bad_zone_line file line kind = line_of (codes "bad zone ") (spaced file (spaced (decimal line) (kind_word kind)))
+bad_zone_line file line kind = line_of (codes "bad zone ") (spaced file (fault_text line kind))
 
 abbrev pub too_many_line : (origin : List (List ℕ)) → List ℕ
 too_many_line origin = line_of (codes "too many records ") (printed_name origin)
@@ -73,6 +77,26 @@ alias_line domain = line_of (codes "refused alias ") domain
 -- the name of record k is taken
 abbrev pub taken_line : (k : ℕ) → (name : List ℕ) → List ℕ
 taken_line k name = line_of (codes "refused taken ") (spaced (decimal k) name)
+
+-- what is to be verified has no reading
+abbrev pub no_zone_line : (line : ℕ) → Kind → List ℕ
+no_zone_line line kind = line_of (codes "no zone ") (fault_text line kind)
+
+abbrev pub no_chain_line : List ℕ
+no_chain_line = line_of (codes "no chain") []
+
+-- the address has another verdict
+abbrev pub other_verdict_line : Address → List ℕ
+other_verdict_line address = line_of (codes "no verdict ") (address_text address)
+
+abbrev pub no_table_line : (line : ℕ) → List ℕ
+no_table_line line = line_of (codes "no table ") (decimal line)
+
+abbrev pub no_terms_line : List ℕ
+no_terms_line = line_of (codes "no terms") []
+
+abbrev pub no_records_line : List ℕ
+no_records_line = line_of (codes "no records") []
 
 abbrev pub read_fault_line : List ℕ → List ℕ
 read_fault_line file = line_of (codes "read fault ") file

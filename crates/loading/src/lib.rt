@@ -15,6 +15,6 @@ pub use inputs::load_inputs;
 pub use laws::one_loading;
 pub use loaded::Loaded;
 pub use memory::OrMemory;
-pub use refusal::Refusal;
+pub use refusal::{Denial, Refusal};
 pub use stop::Stop;
 pub use text::{copied, line, push_address, push_part};

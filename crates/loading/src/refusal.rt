@@ -1,8 +1,10 @@
 //! Why a job is refused: the status and the line of each refusal, for all jobs, at this one place.
 ghost use Rattle.std.specs.Prelude.{◌≡◌, IfOk};
-ghost use Rattle.loading.specs.Refusals.{refusal_status, refusal_line};
+ghost use Rattle.loading.specs.Refusals.{refusal_status, refusal_line, denial_line};
 
-use crate::text::{alias_and_other, bad_zone, line, no_verdict, taken, too_many};
+use crate::text::{
+    alias_and_other, bad_zone, line, no_table, no_verdict, no_zone, other_verdict, taken, too_many,
+};
 use addr_bits::{Address, Bytes};
 use dns_name::Name;
 use master_reader::Kind;
@@ -31,6 +33,27 @@ pub enum Refusal {
     Taken { number: u64, name: Bytes },
     /// The list fits into no records.
     TooBig,
+    /// The file does not show that its records are right and fewest.
+    Denied(Denial),
+}
+
+/// Why a file does not show that its records give each address its verdict, by the fewest terms in the fewest records:
+/// in this order, each where none before it holds.
+#[derive(Debug, Drop)]
+pub enum Denial {
+    /// The file is no master file (RFC 1035, section 5.1): its first fault is of this kind, in the entry that begins on
+    /// this line, counted from 1.
+    NoZone { line: u64, kind: Kind },
+    /// Its records do not have the form of a chain.
+    NoChain,
+    /// The least address to which its list gives another verdict than check_host (RFC 7208, section 4).
+    NoVerdict { address: Address },
+    /// Its table is no good table: the line that is named, counted from 1.
+    NoTable { line: u64 },
+    /// Its list has another number of terms than its table shows.
+    NoTerms,
+    /// One of its records does not fit, or a cut of its list with fewer records does.
+    NoRecords,
 }
 
 impl Refusal {
@@ -46,6 +69,7 @@ impl Refusal {
             | Refusal::BadZone { .. }
             | Refusal::TooManyRecords { .. }
             | Refusal::AliasAndOther { .. } => 3,
+            Refusal::Denied(_) => 8,
         }
     }
 
@@ -67,6 +91,23 @@ impl Refusal {
             Refusal::Alias { domain } => line(alloc, "refused alias ", domain.as_slice()),
             Refusal::Taken { number, name } => taken(alloc, *number, name.as_slice()),
             Refusal::TooBig => line(alloc, "too big", b""),
+            Refusal::Denied(denial) => denial.line(alloc),
+        }
+    }
+}
+
+impl Denial {
+    /// The line on standard error.
+    fn line(&self, alloc: Global) -> Result<Bytes, AllocError>
+        ensures { IfOk result (λ line. line ≡ denial_line self.now) }
+    {
+        match self {
+            Denial::NoZone { line: number, kind } => no_zone(alloc, *number, *kind),
+            Denial::NoChain => line(alloc, "no chain", b""),
+            Denial::NoVerdict { address } => other_verdict(alloc, *address),
+            Denial::NoTable { line: number } => no_table(alloc, *number),
+            Denial::NoTerms => line(alloc, "no terms", b""),
+            Denial::NoRecords => line(alloc, "no records", b""),
         }
     }
 }

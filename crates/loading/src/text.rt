@@ -1,7 +1,8 @@
 //! Lines that are printed.
 ghost use Rattle.std.specs.Prelude.{◌≡◌, ◌++◌, ◌∷◌, IfOk, OnOk};
-ghost use Rattle.loading.specs.Lines.{line_of, kind_word, address_text};
+ghost use Rattle.loading.specs.Lines.{line_of, kind_word, fault_text, address_text};
 ghost use Rattle.loading.specs.Lines.{bad_zone_line, too_many_line, alias_and_other_line, no_verdict_line, taken_line};
+ghost use Rattle.loading.specs.Lines.{no_zone_line, other_verdict_line, no_table_line};
 
 use addr_bits::{Address, Bytes, write_ip4, write_ip6};
 use dns_name::Name;
@@ -52,6 +53,14 @@ fn kind_word(kind: Kind) -> &'static str
     }
 }
 
+/// Appends where the first fault of a file is, and of which kind.
+fn push_fault(bytes: &mut Bytes, number: u64, kind: Kind) -> Result<(), AllocError>
+    ensures { OnOk result (bytes.new ≡ bytes.old ++ fault_text number kind) }
+{
+    bytes.extend_from_slice(Buffer::new().format(number).as_bytes())?;
+    push_part(bytes, kind_word(kind).as_bytes())
+}
+
 /// The line of a file that has no reading.
 pub(crate) fn bad_zone(
     alloc: Global,
@@ -63,8 +72,8 @@ pub(crate) fn bad_zone(
 {
     let mut tail = Bytes::new(alloc);
     tail.extend_from_slice(file)?;
-    push_part(&mut tail, Buffer::new().format(number).as_bytes())?;
-    push_part(&mut tail, kind_word(kind).as_bytes())?;
+    tail.push(b' ')?;
+    push_fault(&mut tail, number, kind)?;
     line(alloc, "bad zone ", tail.as_slice())
 }
 
@@ -121,6 +130,31 @@ pub(crate) fn taken(alloc: Global, number: u64, name: &[u8]) -> Result<Bytes, Al
     tail.extend_from_slice(Buffer::new().format(number).as_bytes())?;
     push_part(&mut tail, name)?;
     line(alloc, "refused taken ", tail.as_slice())
+}
+
+/// The line of a file that has no reading, which is to be verified.
+pub(crate) fn no_zone(alloc: Global, number: u64, kind: Kind) -> Result<Bytes, AllocError>
+    ensures { IfOk result (λ bytes. bytes ≡ no_zone_line number kind) }
+{
+    let mut tail = Bytes::new(alloc);
+    push_fault(&mut tail, number, kind)?;
+    line(alloc, "no zone ", tail.as_slice())
+}
+
+/// The line of an address that has another verdict.
+pub(crate) fn other_verdict(alloc: Global, address: Address) -> Result<Bytes, AllocError>
+    ensures { IfOk result (λ bytes. bytes ≡ other_verdict_line address) }
+{
+    let mut tail = Bytes::new(alloc);
+    push_address(&mut tail, address)?;
+    line(alloc, "no verdict ", tail.as_slice())
+}
+
+/// The line of a table that is no good table.
+pub(crate) fn no_table(alloc: Global, number: u64) -> Result<Bytes, AllocError>
+    ensures { IfOk result (λ bytes. bytes ≡ no_table_line number) }
+{
+    line(alloc, "no table ", Buffer::new().format(number).as_bytes())
 }
 
 /// A copy of the bytes.

@@ -7,11 +7,8 @@ use Rattle.zone_writer.specs.Written.{AreChainWords}
 use Rattle.spfc_words.specs.Domains.{IsDomain}
 use Rattle.spfc_words.specs.Options.{NumberIs, TextIs}
 use Rattle.spfc_words.specs.Rows.{OptionRow, NumberOption, TextOption}
+use Rattle.spfc_words.specs.Size.{size_option}
 use Rattle.publishing.specs.declared.settings.ChainSettings.{ChainSettings}
-
--- what a record may take, in octets and plus one (450 after the guideline of RFC 7208, section 3.4)
-abbrev pub size_option : OptionRow
-size_option = NumberOption (codes "--size") 64 4096 450
 
 -- RFC 2181, section 8: the TTL of the records, in seconds
 abbrev pub ttl_option : OptionRow

@@ -10,4 +10,4 @@ mod settings;
 pub use laws::{due_is_best, one_publication};
 pub use policy::publish_policy;
 pub use publication::publish;
-pub use settings::{ChainSettings, LABEL, SIZE, TTL, read_settings};
+pub use settings::{ChainSettings, LABEL, TTL, read_settings};

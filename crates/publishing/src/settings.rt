@@ -8,16 +8,10 @@ ghost use Rattle.publishing.specs.declared.settings.ChainSettings.{ChainSettings
 
 use addr_bits::Bytes;
 use spf_macros::{MAX_NAME_TEXT, is_label};
-use spfc_words::{Domain, NumberRow, Row, TextRow, lowercase, read_domain, read_number, read_text};
-use std::alloc::{AllocError, Global};
-
-/// `--size N`: what a record takes is less than this, in octets (RFC 7208, section 3.4).
-pub const SIZE: NumberRow = NumberRow {
-    name: "--size",
-    low: 64,
-    high: 4096,
-    by_default: 450,
+use spfc_words::{
+    Domain, NumberRow, Row, SIZE, TextRow, lowercase, read_domain, read_number, read_text,
 };
+use std::alloc::{AllocError, Global};
 
 /// `--ttl N`: the TTL of the records, in seconds (RFC 2181, section 8).
 pub const TTL: NumberRow = NumberRow {

@@ -8,19 +8,23 @@ use Rattle.job_compile.specs.Words.{SpellsCompile}
 use Rattle.job_deps.specs.Meaning.{meaning_of_deps}
 use Rattle.job_deps.specs.Words.{SpellsDeps}
 use Rattle.spfc_top.specs.declared.any_job.AnyJob.{AnyJob}
-use Rattle.spfc_top.specs.declared.any_job.AnyJob.TheVariants.{Check, Compile, Deps}
+use Rattle.spfc_top.specs.declared.any_job.AnyJob.TheVariants.{Check, Compile, Deps, Verify}
+use Rattle.job_verify.specs.Meaning.{meaning_of_verify}
+use Rattle.job_verify.specs.Words.{SpellsVerify}
 
 -- project's own choice: the command of a job
 abbrev pub command_of : AnyJob → List ℕ
 command_of (Check job) = codes "check"
 command_of (Compile job) = codes "compile"
 command_of (Deps job) = codes "deps"
+command_of (Verify job) = codes "verify"
 
 -- the words behind the command
 abbrev pub SpellsBehind : List (List ℕ) → AnyJob → Type 0
 SpellsBehind words (Check job) = SpellsCheck words job
 SpellsBehind words (Compile job) = SpellsCompile words job
 SpellsBehind words (Deps job) = SpellsDeps words job
+SpellsBehind words (Verify job) = SpellsVerify words job
 
 -- the words spell the job
 abbrev pub SpellsAny : List (List ℕ) → AnyJob → Type 0
@@ -32,6 +36,7 @@ abbrev pub meaning_of : AnyJob → Meaning
 meaning_of (Check job) = meaning_of_check job
 meaning_of (Compile job) = meaning_of_compile job
 meaning_of (Deps job) = meaning_of_deps job
+meaning_of (Verify job) = meaning_of_verify job
 
 -- all jobs
 abbrev pub jobs : Program

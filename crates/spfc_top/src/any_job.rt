@@ -7,6 +7,7 @@ ghost use Rattle.spfc_top.specs.declared.any_job.AnyJob.{AnyJob};
 use job_check::Check;
 use job_compile::Compile;
 use job_deps::Deps;
+use job_verify::Verify;
 use jobs::{Job, Output};
 use loading::{Loaded, OrMemory, Refusal};
 use spfc_words::{Input, split_first};
@@ -21,6 +22,8 @@ pub enum AnyJob {
     Compile(Compile),
     /// `deps DOMAIN READING ORIGIN=FILE..`
     Deps(Deps),
+    /// `verify DOMAIN FILE OPTIONS ORIGIN=FILE..`
+    Verify(Verify),
 }
 
 /// The job that the words after the program's name spell; `None` exactly where they spell none.
@@ -53,6 +56,7 @@ impl Job for AnyJob {
             "check" => Ok(Check::read(alloc, rest)?.map(AnyJob::Check)),
             "compile" => Ok(Compile::read(alloc, rest)?.map(AnyJob::Compile)),
             "deps" => Ok(Deps::read(alloc, rest)?.map(AnyJob::Deps)),
+            "verify" => Ok(Verify::read(alloc, rest)?.map(AnyJob::Verify)),
             _ => Ok(None),
         }
     }
@@ -62,6 +66,7 @@ impl Job for AnyJob {
             AnyJob::Check(job) => job.inputs(),
             AnyJob::Compile(job) => job.inputs(),
             AnyJob::Deps(job) => job.inputs(),
+            AnyJob::Verify(job) => job.inputs(),
         }
     }
 
@@ -70,6 +75,7 @@ impl Job for AnyJob {
             AnyJob::Check(job) => job.perform(alloc, loaded),
             AnyJob::Compile(job) => job.perform(alloc, loaded),
             AnyJob::Deps(job) => job.perform(alloc, loaded),
+            AnyJob::Verify(job) => job.perform(alloc, loaded),
         }
     }
 }

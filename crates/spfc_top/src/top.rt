@@ -19,6 +19,7 @@ use std::alloc::{AllocError, Global};
 /// | 5 | a call of the files failed | the line `read fault FILE`, to `err` |
 /// | 6 | a write failed | a first part of what was due, to `out` or `err` |
 /// | 7 | there was no memory | nothing |
+/// | 8 | a file is not accepted by `verify` | the line `no ..`, to `err` |
 pub fn run<F: Files, K: Sink, E: Sink>(
     alloc: Global,
     words: &[String],
@@ -35,7 +36,9 @@ pub fn run<F: Files, K: Sink, E: Sink>(
     // That output is the best that the job can have: of `compile`, a shortest list with the verdicts of check_host, in
     // records that fit, of which no cut that fits has fewer, and whose names are free. The bytes are read as these
     // records, over which alone, and over the zones with them in place, check_host gives each address the same verdict,
-    // by at most 10 lookups and no void lookup.
+    // by at most 10 lookups and no void lookup. Of `verify`, the numbers of terms and of records of a file that is read
+    // as a chain of records: these fit, and of their list no cut that fits at their names has fewer; over them alone
+    // check_host gives each address the verdict that it has over the zones, and no list that does has fewer terms.
     ensures best { result ≡ 0 → HasBest jobs (turn words.now
         (step F.seen files.old files.new) (step K.seen out.old out.new) (step E.seen err.old err.new)) }
 

@@ -4,7 +4,7 @@ use Rattle.spfc_words.specs.declared.input.Group.{Group}
 use Rattle.spfc_words.specs.declared.input.Group.TheVariants.{Zones, Others}
 use Rattle.spfc_words.specs.declared.input.Input.{Input}
 use Rattle.spfc_words.specs.declared.input.Place.{Place}
-use Rattle.spfc_words.specs.declared.input.Place.TheVariants.{Zone, Other}
+use Rattle.spfc_words.specs.declared.input.Place.TheVariants.{Zone, Other, File}
 use Rattle.spfc_words.specs.declared.zone_word.ZoneWord.{ZoneWord}
 use Rattle.spfc_words.specs.ZoneWords.{AreZoneWords}
 
@@ -22,3 +22,7 @@ pub record AreZoneInputs (group : Group) (words : List (List ℕ)) (inputs : Lis
   pub zones : List ZoneWord
   pub are : AreZoneWords words zones
   pub placed : inputs ≡ map (place_zone group) zones
+
+-- the file that is no zone: its name is the word as it stands
+abbrev pub file_input : (word : List ℕ) → Input
+file_input word = record { place = File; file = word }

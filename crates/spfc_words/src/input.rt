@@ -1,8 +1,8 @@
 //! The files that a job reads.
-ghost use Rattle.std.specs.Prelude.{◌≡◌, ◌++◌, List, map, Ok, OnOk, OnErr, true, false};
+ghost use Rattle.std.specs.Prelude.{◌≡◌, ◌++◌, ◌∷◌, List, [], map, Ok, OnOk, OnErr, true, false};
 ghost use Rattle.spfc_words.specs.declared.input.Input.{Input};
 ghost use Rattle.spfc_words.specs.Inputs as inputs;
-ghost use Rattle.spfc_words.specs.Inputs.{AreZoneInputs, place_zone as input_of};
+ghost use Rattle.spfc_words.specs.Inputs.{AreZoneInputs, file_input, place_zone as input_of};
 ghost use Rattle.spfc_words.specs.Words.{texts};
 
 use crate::zone_word::{ZoneWord, ZoneWords, read_zone_words};
@@ -67,6 +67,20 @@ pub fn push_zone_words(
             Err(AllocError)
         }
     }
+}
+
+/// Appends the file that is no zone, whose name is the word as it stands. Where there is no memory the list stays as it
+/// was.
+pub fn push_file(alloc: Global, inputs: &mut Inputs, word: &str) -> Result<(), AllocError>
+    ensures named { OnOk result (inputs.new ≡ inputs.old ++ file_input word.now ∷ []) }
+    ensures memory { OnErr result (inputs.new ≡ inputs.old) }
+{
+    let mut file = Bytes::new(alloc);
+    file.extend_from_slice(word.as_bytes())?;
+    inputs.push(Input {
+        place: Place::File,
+        file,
+    })
 }
 
 /// Appends the zones, or the first of them.
