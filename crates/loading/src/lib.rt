@@ -13,6 +13,7 @@ mod text;
 
 pub use inputs::load_inputs;
 pub use laws::one_loading;
+pub use lending::lend;
 pub use loaded::Loaded;
 pub use memory::OrMemory;
 pub use refusal::Refusal;

@@ -5,18 +5,22 @@ use Rattle.job_check.specs.Meaning.{meaning_of_check}
 use Rattle.job_check.specs.Words.{SpellsCheck}
 use Rattle.job_compile.specs.Meaning.{meaning_of_compile}
 use Rattle.job_compile.specs.Words.{SpellsCompile}
+use Rattle.job_trial.specs.Meaning.{meaning_of_trial}
+use Rattle.job_trial.specs.Words.{SpellsTrial}
 use Rattle.spfc_top.specs.declared.any_job.AnyJob.{AnyJob}
-use Rattle.spfc_top.specs.declared.any_job.AnyJob.TheVariants.{Check, Compile}
+use Rattle.spfc_top.specs.declared.any_job.AnyJob.TheVariants.{Check, Compile, Trial}
 
 -- project's own choice: the command of a job
 abbrev pub command_of : AnyJob → List ℕ
 command_of (Check job) = codes "check"
 command_of (Compile job) = codes "compile"
+command_of (Trial job) = codes "trial"
 
 -- the words behind the command
 abbrev pub SpellsBehind : List (List ℕ) → AnyJob → Type 0
 SpellsBehind words (Check job) = SpellsCheck words job
 SpellsBehind words (Compile job) = SpellsCompile words job
+SpellsBehind words (Trial job) = SpellsTrial words job
 
 -- the words spell the job
 abbrev pub SpellsAny : List (List ℕ) → AnyJob → Type 0
@@ -27,6 +31,7 @@ SpellsAny (command ∷ words) job = (command ≡ command_of job) × SpellsBehind
 abbrev pub meaning_of : AnyJob → Meaning
 meaning_of (Check job) = meaning_of_check job
 meaning_of (Compile job) = meaning_of_compile job
+meaning_of (Trial job) = meaning_of_trial job
 
 -- all jobs
 abbrev pub jobs : Program

@@ -6,6 +6,7 @@ ghost use Rattle.spfc_top.specs.declared.any_job.AnyJob.{AnyJob};
 
 use job_check::Check;
 use job_compile::Compile;
+use job_trial::Trial;
 use jobs::{Job, Output};
 use loading::{Loaded, OrMemory, Refusal};
 use spfc_words::{Input, split_first};
@@ -18,6 +19,8 @@ pub enum AnyJob {
     Check(Check),
     /// `compile DOMAIN OPTIONS ORIGIN=FILE..`
     Compile(Compile),
+    /// `trial START N`
+    Trial(Trial),
 }
 
 /// The job that the words after the program's name spell; `None` exactly where they spell none.
@@ -49,6 +52,7 @@ impl Job for AnyJob {
         match command {
             "check" => Ok(Check::read(alloc, rest)?.map(AnyJob::Check)),
             "compile" => Ok(Compile::read(alloc, rest)?.map(AnyJob::Compile)),
+            "trial" => Ok(Trial::read(alloc, rest)?.map(AnyJob::Trial)),
             _ => Ok(None),
         }
     }
@@ -57,6 +61,7 @@ impl Job for AnyJob {
         match self {
             AnyJob::Check(job) => job.inputs(),
             AnyJob::Compile(job) => job.inputs(),
+            AnyJob::Trial(job) => job.inputs(),
         }
     }
 
@@ -64,6 +69,7 @@ impl Job for AnyJob {
         match self {
             AnyJob::Check(job) => job.perform(alloc, loaded),
             AnyJob::Compile(job) => job.perform(alloc, loaded),
+            AnyJob::Trial(job) => job.perform(alloc, loaded),
         }
     }
 }
