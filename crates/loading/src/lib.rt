@@ -16,6 +16,7 @@ pub use laws::one_loading;
 pub use lending::lend;
 pub use loaded::Loaded;
 pub use memory::OrMemory;
+pub use reading::read_records;
 pub use refusal::Refusal;
 pub use stop::Stop;
 pub use text::{copied, line};
