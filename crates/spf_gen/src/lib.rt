@@ -2,7 +2,9 @@
 #![tactic(auto)]
 
 mod draws;
+mod laws;
 mod network;
 mod zone;
 
+pub use laws::first_of_zero;
 pub use zone::generate;
