@@ -49,7 +49,7 @@ one_file held file x y (whole c a few e) (whole d b few' f) = e ∙ (ap Ok (same
 same_bad : (file : List ℕ) (l m : ℕ) (k j : Kind) → (l ≡ m) × (k ≡ j) → BadZone file l k ≡ BadZone file m j
 same_bad file l m k j same = cc
 
-one_reading : (origin : List (List ℕ)) (file contents : List ℕ) (x y : Result (List Record) Refusal)
+pub one_reading : (origin : List (List ℕ)) (file contents : List ℕ) (x y : Result (List Record) Refusal)
     → ReadingDue origin file contents x → ReadingDue origin file contents y → x ≡ y
 one_reading origin file c x y (bad_zone l k bad e) (bad_zone m j bad' f) =
     e ∙ (ap Err (same_bad file l m k j (faults_once origin c l m k j bad bad')) ∙ sym f)
@@ -71,7 +71,7 @@ both_at_most xs ys a b = by (slice_cmp nat_cmp xs ys) refl
 no_clash : (b : Bool) → IsFalse b → IsTrue b → ⊥
 no_clash b f t = cc
 
-one_lend : (zones : List Zone) (origin : List (List ℕ)) (records : List Record) (x y : Result (List Zone) Refusal)
+pub one_lend : (zones : List Zone) (origin : List (List ℕ)) (records : List Record) (x y : Result (List Zone) Refusal)
     → LendDue zones origin records x → LendDue zones origin records y → x ≡ y
 one_lend zones origin records x y (too_many n a e) (too_many m b f) = e ∙ sym f
 one_lend zones origin records x y (too_many n a e) (clash name legal b f) = absurd (omega (arith, a.1, a.2, b.1))
@@ -90,7 +90,7 @@ one_lend zones origin records x y (lent free e) (lent free' f) = e ∙ sym f
 
 -- ---- steps
 -- steps that come to one thing each come to one thing together
-one_then : {A B : Type 0} (x y : Result A Refusal) (Next : A → Result B Refusal → Type 0) (a b : Result B Refusal)
+pub one_then : {A B : Type 0} (x y : Result A Refusal) (Next : A → Result B Refusal → Type 0) (a b : Result B Refusal)
     → x ≡ y → ((v : A) (c d : Result B Refusal) → Next v c → Next v d → c ≡ d) → Then x Next a → Then y Next b → a ≡ b
 one_then {A = A} {B = B} x y Next a b same one p q = one_at x a b p (subst (λ z. Then z Next b) (sym same) q)
   where

@@ -79,7 +79,11 @@ fn read_zone<F: Files>(
         (λ why. ZonesDue ((F.seen files.old).held file.now) zones.old origin.now file.now (Err why)))) }
 {
     let records = read_records(alloc, files, origin, file)?;
-    lend(zones, origin, records)
+    match lend(zones, origin, records) {
+        Ok(()) => Ok(()),
+        Err(OrMemory::Error(why)) => Err(refused(why)),
+        Err(OrMemory::Memory) => Err(OrMemory::Memory),
+    }
 }
 
 /// The contents of a file that is no zone.

@@ -2,27 +2,29 @@
 ghost use Rattle.std.specs.Prelude.{◌≡◌, Ok, Err, OnOk, IfErr};
 ghost use Rattle.dns_name.specs.Name.{IsName};
 ghost use Rattle.zone_answers.specs.Lend.{AreLendable};
-ghost use Rattle.loading.specs.Loading.{LendDue, IsRefusal};
+ghost use Rattle.loading.specs.Loading.{LendDue};
 ghost use Rattle.loading.specs.Memory.{ErrorIs};
 
-use crate::stop::refused;
-use crate::{OrMemory, Refusal, Stop};
+use crate::{OrMemory, Refusal};
 use dns_name::Name;
 use master_reader::Records;
 use zone_answers::{LendFault, Zones};
 
-/// Lends the records beside the zones before them.
-pub(crate) fn lend(zones: &mut Zones, origin: &Name, records: Records) -> Result<(), OrMemory<Stop>>
+/// Lends the records beside the zones before them, none of which has this origin: one that has is answered as want of
+/// memory. Refused are more than 65,536 records in all, and an alias beside other records (RFC 1034, section 3.6.2).
+pub fn lend(zones: &mut Zones, origin: &Name, records: Records) -> Result<(), OrMemory<Refusal>>
     requires { AreLendable origin.now records }
     ensures lent { OnOk result (LendDue zones.old origin.now records (Ok zones.new)) }
-    ensures stops { IfErr result (ErrorIs (IsRefusal (λ why. LendDue zones.old origin.now records (Err why)))) }
+    ensures refused { IfErr result (ErrorIs (λ why. LendDue zones.old origin.now records (Err why))) }
 {
     match zones.lend(origin.clone()?, records) {
         Ok(()) => Ok(()),
-        Err(LendFault::TooMany { .. }) => Err(refused(Refusal::TooManyRecords {
+        Err(LendFault::TooMany { .. }) => Err(OrMemory::Error(Refusal::TooManyRecords {
             origin: origin.clone()?,
         })),
-        Err(LendFault::AliasAndOther { name }) => Err(refused(clash(origin.clone()?, name))),
+        Err(LendFault::AliasAndOther { name }) => {
+            Err(OrMemory::Error(clash(origin.clone()?, name)))
+        }
         // The words of no job have an origin twice in a group.
         Err(LendFault::SameOrigin | LendFault::Memory) => Err(OrMemory::Memory),
     }

@@ -13,8 +13,10 @@ mod text;
 
 pub use inputs::load_inputs;
 pub use laws::one_loading;
+pub use lending::lend;
 pub use loaded::Loaded;
 pub use memory::OrMemory;
+pub use reading::read_records;
 pub use refusal::{Denial, Refusal};
 pub use stop::Stop;
 pub use text::{copied, line, push_address, push_part};

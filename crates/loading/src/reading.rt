@@ -5,6 +5,7 @@ ghost use Rattle.master_reader.specs.Reading.{Reads as HasReading, Faults};
 ghost use Rattle.master_reader.specs.Readers.{FaultIs};
 ghost use Rattle.zone_answers.specs.Lend.{AreLendable};
 ghost use Rattle.spfc_outer.specs.Causes.{HasOpenCause};
+ghost use Rattle.spfc_outer.specs.Moved.{Takes, TakesAtMost};
 ghost use Rattle.spfc_outer.specs.Seen.{Keeps, FailsAt};
 ghost use Rattle.loading.specs.Loading.{RecordsDue, IsRefusal, StopsAt, most_bytes};
 ghost use Rattle.loading.specs.Memory.{ErrorIs};
@@ -117,6 +118,8 @@ fn take_rest<F: Files>(alloc: Global, files: &mut F, origin: &Name) -> Result<Ta
     ensures told { (F.seen files.new).told ≡ (F.seen files.old).told }
     ensures held { (F.seen files.new).held ≡ (F.seen files.old).held }
     ensures taken { IfOk result (HasRead (F.seen files.old).told origin.now (F.rest files.old)) }
+    ensures takes { IsTrue (F.seen files.old).told
+        → TakesAtMost (most_bytes + 1) (F.rest files.old) (F.rest files.new) }
     ensures named { IsTrue (F.seen files.old).told → IsErrOf result OpenFault.Failed
         → (F.seen files.new).last_fault ≡ Some (F.chosen_name files.old) }
     ensures cause { HasOpenCause (F.seen files.old).faults (F.seen files.new).faults result }
@@ -148,6 +151,8 @@ fn take_file<F: Files>(
 ) -> Result<Option<Taken>, OpenFault>
     ensures keeps { Keeps (F.seen files.old) (F.seen files.new) }
     ensures loaded { IfOk result (HasLoaded (F.seen files.old).told origin.now ((F.seen files.old).held file.now)) }
+    ensures takes { IsTrue (F.seen files.old).told → Takes (most_bytes + 1) ((F.seen files.old).held file.now)
+        (files.new ≡ files.old) (F.is_chosen files.new) (F.rest files.new) }
     ensures fails { IsErrOf result OpenFault.Failed → FailsAt (F.seen files.old) (F.seen files.new) file.now }
 {
     match files.open_file(file)? {
@@ -159,8 +164,10 @@ fn take_file<F: Files>(
     }
 }
 
-/// The records of the file of a zone.
-pub(crate) fn read_records<F: Files>(
+/// The records of the master file of a zone (RFC 1035, section 5), of which at most 8,388,609 bytes are taken. Refused
+/// are a name of no file, a file of more than 8,388,608 bytes, and one that has no reading; `ReadFault` comes only where
+/// its calls failed.
+pub fn read_records<F: Files>(
     alloc: Global,
     files: &mut F,
     origin: &Name,
@@ -170,6 +177,8 @@ pub(crate) fn read_records<F: Files>(
     ensures done { IsTrue (F.seen files.old).told → IfOk result (λ records.
         RecordsDue ((F.seen files.old).held file.now) origin.now file.now (Ok records)) }
     ensures lendable { IfOk result (AreLendable origin.now) }
+    ensures takes { IsTrue (F.seen files.old).told → Takes (most_bytes + 1) ((F.seen files.old).held file.now)
+        (files.new ≡ files.old) (F.is_chosen files.new) (F.rest files.new) }
     ensures stops { IfErr result (ErrorIs (StopsAt (F.seen files.old) (F.seen files.new) file.now
         (λ why. RecordsDue ((F.seen files.old).held file.now) origin.now file.now (Err why)))) }
 {

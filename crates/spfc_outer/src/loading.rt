@@ -1,14 +1,14 @@
 //! Reads a file whole, up to a limit.
-ghost use Rattle.std.specs.Prelude.{◌≡◌, ◌<◌, ◌≤◌, ◌++◌, [], Some, true, false, length, take, IsTrue, IsErrOf, IfOk, OnOk};
+ghost use Rattle.std.specs.Prelude.{◌≡◌, ◌-◌, ◌<◌, ◌≤◌, ◌++◌, [], Some, true, false, length, take, IsTrue, IsErrOf, IfOk, OnOk};
 ghost use Rattle.spfc_outer.specs.Causes.{HasOpenCause};
-ghost use Rattle.spfc_outer.specs.Moved.{IsLoaded};
+ghost use Rattle.spfc_outer.specs.Moved.{IsLoaded, Takes, TakesAtMost};
 ghost use Rattle.spfc_outer.specs.Seen.{Keeps, FailsAt};
 
 use crate::{Files, OpenFault, Opened};
 use addr_bits::Bytes;
 use std::alloc::Global;
 
-/// Chooses the file of this name and reads it, at most `most` bytes of it. `None` where there is no such file.
+/// Chooses the file of this name and reads it, at most `most` bytes of it, however it ends. `None` where there is no such file.
 pub fn load<F: Files>(
     alloc: Global,
     files: &mut F,
@@ -17,6 +17,8 @@ pub fn load<F: Files>(
 ) -> Result<Option<Bytes>, OpenFault>
     ensures keeps { Keeps (F.seen files.old) (F.seen files.new) }
     ensures loaded { IsTrue (F.seen files.old).told → IfOk result (IsLoaded ((F.seen files.old).held name.now) most) }
+    ensures takes { IsTrue (F.seen files.old).told → Takes most ((F.seen files.old).held name.now)
+        (files.new ≡ files.old) (F.is_chosen files.new) (F.rest files.new) }
     ensures fails { IsErrOf result OpenFault.Failed → FailsAt (F.seen files.old) (F.seen files.new) name.now }
 {
     match files.open_file(name)? {
@@ -34,6 +36,7 @@ fn read_rest<F: Files>(alloc: Global, files: &mut F, most: usize) -> Result<Byte
     ensures told { (F.seen files.new).told ≡ (F.seen files.old).told }
     ensures held { (F.seen files.new).held ≡ (F.seen files.old).held }
     ensures bytes { IsTrue (F.seen files.old).told → IfOk result (λ bytes. bytes ≡ take most (F.rest files.old)) }
+    ensures takes { IsTrue (F.seen files.old).told → TakesAtMost most (F.rest files.old) (F.rest files.new) }
     ensures named { IsTrue (F.seen files.old).told → IsErrOf result OpenFault.Failed
         → (F.seen files.new).last_fault ≡ Some (F.chosen_name files.old) }
     ensures cause { HasOpenCause (F.seen files.old).faults (F.seen files.new).faults result }
@@ -63,6 +66,8 @@ fn read_piece<F: Files>(files: &mut F, bytes: &mut Bytes, most: usize) -> Result
     ensures name { IsTrue (F.seen files.old).told → F.chosen_name files.new ≡ F.chosen_name files.old }
     ensures moved { IsTrue (F.seen files.old).told
         → OnOk result (bytes.old ++ F.rest files.old ≡ bytes.new ++ F.rest files.new) }
+    ensures takes { IsTrue (F.seen files.old).told
+        → TakesAtMost (most - length bytes.old) (F.rest files.old) (F.rest files.new) }
     ensures end { IsTrue (F.seen files.old).told → result ≡ Ok true → F.rest files.new ≡ [] }
     ensures grows { result ≡ Ok false → length bytes.old < length bytes.new }
     ensures within { OnOk result (length bytes.new ≤ most) }

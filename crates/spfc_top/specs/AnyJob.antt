@@ -8,9 +8,11 @@ use Rattle.job_compile.specs.Words.{SpellsCompile}
 use Rattle.job_deps.specs.Meaning.{meaning_of_deps}
 use Rattle.job_deps.specs.Words.{SpellsDeps}
 use Rattle.spfc_top.specs.declared.any_job.AnyJob.{AnyJob}
-use Rattle.spfc_top.specs.declared.any_job.AnyJob.TheVariants.{Check, Compile, Deps, Verify}
+use Rattle.spfc_top.specs.declared.any_job.AnyJob.TheVariants.{Check, Compile, Deps, Verify, Trial}
 use Rattle.job_verify.specs.Meaning.{meaning_of_verify}
 use Rattle.job_verify.specs.Words.{SpellsVerify}
+use Rattle.job_trial.specs.Meaning.{meaning_of_trial}
+use Rattle.job_trial.specs.Words.{SpellsTrial}
 
 -- project's own choice: the command of a job
 abbrev pub command_of : AnyJob → List ℕ
@@ -18,6 +20,7 @@ command_of (Check job) = codes "check"
 command_of (Compile job) = codes "compile"
 command_of (Deps job) = codes "deps"
 command_of (Verify job) = codes "verify"
+command_of (Trial job) = codes "trial"
 
 -- the words behind the command
 abbrev pub SpellsBehind : List (List ℕ) → AnyJob → Type 0
@@ -25,6 +28,7 @@ SpellsBehind words (Check job) = SpellsCheck words job
 SpellsBehind words (Compile job) = SpellsCompile words job
 SpellsBehind words (Deps job) = SpellsDeps words job
 SpellsBehind words (Verify job) = SpellsVerify words job
+SpellsBehind words (Trial job) = SpellsTrial words job
 
 -- the words spell the job
 abbrev pub SpellsAny : List (List ℕ) → AnyJob → Type 0
@@ -37,6 +41,7 @@ meaning_of (Check job) = meaning_of_check job
 meaning_of (Compile job) = meaning_of_compile job
 meaning_of (Deps job) = meaning_of_deps job
 meaning_of (Verify job) = meaning_of_verify job
+meaning_of (Trial job) = meaning_of_trial job
 
 -- all jobs
 abbrev pub jobs : Program

@@ -8,6 +8,7 @@ use job_check::Check;
 use job_compile::Compile;
 use job_deps::Deps;
 use job_verify::Verify;
+use job_trial::Trial;
 use jobs::{Job, Output};
 use loading::{Loaded, OrMemory, Refusal};
 use spfc_words::{Input, split_first};
@@ -24,6 +25,8 @@ pub enum AnyJob {
     Deps(Deps),
     /// `verify DOMAIN FILE OPTIONS ORIGIN=FILE..`
     Verify(Verify),
+    /// `trial START N`
+    Trial(Trial),
 }
 
 /// The job that the words after the program's name spell; `None` exactly where they spell none.
@@ -57,6 +60,7 @@ impl Job for AnyJob {
             "compile" => Ok(Compile::read(alloc, rest)?.map(AnyJob::Compile)),
             "deps" => Ok(Deps::read(alloc, rest)?.map(AnyJob::Deps)),
             "verify" => Ok(Verify::read(alloc, rest)?.map(AnyJob::Verify)),
+            "trial" => Ok(Trial::read(alloc, rest)?.map(AnyJob::Trial)),
             _ => Ok(None),
         }
     }
@@ -67,6 +71,7 @@ impl Job for AnyJob {
             AnyJob::Compile(job) => job.inputs(),
             AnyJob::Deps(job) => job.inputs(),
             AnyJob::Verify(job) => job.inputs(),
+            AnyJob::Trial(job) => job.inputs(),
         }
     }
 
@@ -76,6 +81,7 @@ impl Job for AnyJob {
             AnyJob::Compile(job) => job.perform(alloc, loaded),
             AnyJob::Deps(job) => job.perform(alloc, loaded),
             AnyJob::Verify(job) => job.perform(alloc, loaded),
+            AnyJob::Trial(job) => job.perform(alloc, loaded),
         }
     }
 }

@@ -17,18 +17,15 @@ any_mapped f p [] = refl
 any_mapped f p (x ∷ xs) = ap (λ b. p (f x) || b) (any_mapped f p xs)
 
 -- ---- one value
-number_small : (low high n : ℕ) (text : List ℕ) → high < 2 ^ 32 → IsNumber low high text n → n < 2 ^ 32
-number_small low high n text small is = let most : n ≤ high = is.most in omega (arith, most, small)
-
-number_fits : (low high n : ℕ) (text : List ℕ) → high < 2 ^ 32 → IsNumber low high text n → n < 2 ^ 64
-number_fits low high n text small is = omega (arith, number_small low high n text small is)
+number_fits : (low high n : ℕ) (text : List ℕ) → high < 2 ^ 64 → IsNumber low high text n → n < 2 ^ 64
+number_fits low high n text small is = let most : n ≤ high = is.most in omega (arith, most, small)
 
 -- what std's `parse` reads, where the text is a number
-pub parsed : {E : Type 0} (low high n : ℕ) (text : List ℕ) (read : Result ℕ E) (found : Option ℕ) → high < 2 ^ 32 → ParsesUnsigned 32 10 text read → found ≡ result_ok read → IsNumber low high text n → found ≡ Some n
+pub parsed : {E : Type 0} (low high n : ℕ) (text : List ℕ) (read : Result ℕ E) (found : Option ℕ) → high < 2 ^ 64 → ParsesUnsigned 64 10 text read → found ≡ result_ok read → IsNumber low high text n → found ≡ Some n
 parsed low high n text read found small parses is number =
-    is ∙ ap (λ r. result_ok r) (parse-decimal 32 n text read (number_small low high n text small number) (number_fits low high n text small number) number.written parses)
+    is ∙ ap (λ r. result_ok r) (parse-decimal 64 n text read (number_fits low high n text small number) (number_fits low high n text small number) number.written parses)
 
-pub one_number : (low high m n : ℕ) (text : List ℕ) → high < 2 ^ 32 → IsNumber low high text m → IsNumber low high text n → m ≡ n
+pub one_number : (low high m n : ℕ) (text : List ℕ) → high < 2 ^ 64 → IsNumber low high text m → IsNumber low high text n → m ≡ n
 one_number low high m n text small a b =
     decimal_injective m n (number_fits low high m text small a) (number_fits low high n text small b) (sym a.written ∙ b.written)
 
@@ -53,7 +50,7 @@ one_option Spells one by_default [] a b x y = x ∙ sym y
 one_option Spells one by_default (value ∷ []) a b x y = one value a b x y
 one_option Spells one by_default (value ∷ again ∷ values) a b x y = absurd x
 
-pub one_value : (low high by_default : ℕ) (values : List (List ℕ)) (m n : ℕ) → high < 2 ^ 32 → IsOption (IsNumber low high) by_default values m → IsOption (IsNumber low high) by_default values n → m ≡ n
+pub one_value : (low high by_default : ℕ) (values : List (List ℕ)) (m n : ℕ) → high < 2 ^ 64 → IsOption (IsNumber low high) by_default values m → IsOption (IsNumber low high) by_default values n → m ≡ n
 one_value low high by_default values m n small a b = one_option (IsNumber low high) (λ text m n. one_number low high m n text small) by_default values m n a b
 
 -- a flag that is written twice
@@ -64,7 +61,7 @@ pub one_flag : (values : List (List ℕ)) (a b : Bool) → IsOption IsFlag false
 one_flag values a b x y = one_option IsFlag (λ text c d e f. e ∙ sym f) false values a b x y
 
 -- ---- what the words in front say is one thing
-pub one_number_is : (table : List OptionRow) (words : List (List ℕ)) (name : List ℕ) (low high by_default m n : ℕ) → high < 2 ^ 32
+pub one_number_is : (table : List OptionRow) (words : List (List ℕ)) (name : List ℕ) (low high by_default m n : ℕ) → high < 2 ^ 64
     → NumberIs table words (NumberOption name low high by_default) m → NumberIs table words (NumberOption name low high by_default) n → m ≡ n
 one_number_is table words name low high by_default m n small x y = one_value low high by_default (values_of name (settings_in table words)) m n small x y
 

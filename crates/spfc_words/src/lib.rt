@@ -14,6 +14,6 @@ pub use domain::{Domain, lowercase, read_domain};
 pub use input::{Group, Input, Inputs, Place, push_file, push_zone_words};
 pub use laws::domains_are_names;
 pub use limits::{EXCHANGES, LOOKUPS, READING, VOIDS, read_limits};
-pub use options::{behind_options, read_flag, read_number, read_text, split_first};
+pub use options::{behind_options, parse_number, read_flag, read_number, read_text, split_first};
 pub use row::{FlagRow, NumberRow, Row, TextRow};
 pub use size::SIZE;

@@ -38,7 +38,10 @@ pub fn read_number(rows: &[Row], words: &[String], row: &NumberRow) -> Option<u3
         MatchOption result ((n : ℕ) → ¬ Is n) Is }
 {
     match value_of(rows, words, row.name) {
-        Some(Some(text)) => parse_number(text, row.low, row.high),
+        Some(Some(text)) => {
+            let number = parse_number(text, u64::from(row.low), u64::from(row.high))?;
+            Some(number as u32)
+        }
         Some(None) => Some(row.by_default),
         None => None,
     }
@@ -112,11 +115,12 @@ fn value_of<'a>(rows: &[Row], words: &'a [String], name: &str) -> Option<Option<
     Some(found)
 }
 
-/// The number that decimal digits write, from `low` to `high`.
-fn parse_number(text: &str, low: u32, high: u32) -> Option<u32>
+/// The number that decimal digits without a sign and without leading zeros write, from `low` to `high`; `None` exactly
+/// where the text writes none of these.
+pub fn parse_number(text: &str, low: u64, high: u64) -> Option<u64>
     ensures { MatchOption result ((n : ℕ) → ¬ IsNumber low high text.now n) (IsNumber low high text.now) }
 {
-    let number: u32 = text.parse().ok()?;
+    let number: u64 = text.parse().ok()?;
     let mut buffer = Buffer::new();
     if number < low || number > high || buffer.format(number) != text {
         return None;

@@ -6,4 +6,5 @@ mod record;
 mod zone;
 
 pub use laws::fragment_is_read;
+pub use record::{push_strings, write_terms};
 pub use zone::fragment;

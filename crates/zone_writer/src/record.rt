@@ -10,8 +10,8 @@ use record_pack::push_name;
 use spf_grammar::{FlatTerm, write_flat};
 use std::alloc::{AllocError, Global};
 
-/// The version section and the terms of a record.
-fn write_terms(alloc: Global, terms: &[FlatTerm]) -> Result<Bytes, AllocError>
+/// The version section and the terms of a record, in their written forms (RFC 7208, sections 4.5 and 4.6.1).
+pub fn write_terms(alloc: Global, terms: &[FlatTerm]) -> Result<Bytes, AllocError>
     ensures { IfOk result (λ text. text ≡ terms_text terms.now) }
 {
     let mut text = Bytes::new(alloc);
@@ -65,8 +65,9 @@ fn push_string(zone: &mut Bytes, string: &[u8]) -> Result<(), AllocError>
     zone.push(b'"')
 }
 
-/// Appends a text as character strings.
-fn push_strings(zone: &mut Bytes, text: &[u8]) -> Result<(), AllocError>
+/// Appends a text as character strings (RFC 1035, section 3.3.14), each between quotes and behind a space: of 255
+/// octets each, the last of which may be shorter.
+pub fn push_strings(zone: &mut Bytes, text: &[u8]) -> Result<(), AllocError>
     ensures { OnOk result (zone.new ≡ zone.old ++ flat_map quoted (strings_of text.now)) }
 {
     let mut rest = text;

@@ -1,5 +1,7 @@
-use Rattle.std.proofs.Common.{◌∙◌, ◌++◌, arith}
+use Rattle.std.proofs.Common.{◌≡◌, ◌≤◌, ◌∙◌, ◌++◌, ℕ, length, take, arith, length-take}
 use Rattle.loading.proofs.ReadingLemmas.{moved, told_before, ends_long}
+use Rattle.std.proofs.lemmas.Grind.{common_steps}
+use Rattle.spfc_outer.proofs.TakenLemmas.{taken_behind}
 use Rattle.loading.proofs.reading.take_rest.Goals as goal
 
 pub loop-taken-preserved : goal.loop-taken-preserved
@@ -23,3 +25,14 @@ loop-taken-preserved g c =
 
 pub returns-clause-taken : goal.returns-clause-taken
 returns-clause-taken g c = ends_long _ _ _ _ _ c.loop-taken.invariant.taken (omega (arith, c.loop-taken-test.false))
+
+pub returns-in_err-taken-clause-takes : goal.returns-in_err-taken-clause-takes
+returns-in_err-taken-clause-takes g c = λ told.
+    let i = c.loop-taken.invariant in
+    let e = c.in_ok-count.ensures in
+    let n : ℕ = c.in_ok-count.count in
+    let within : n ≤ length c.read.new.buf = e.bound.0 in
+    let counted : c.loop-taken.taken.count ≡ length i.taken.0 = i.taken.1.0 in
+    let room : length c.read.new.buf ≤ c.min-room.result = grind (arith, common_steps) in
+    taken_behind 8388609 n _ i.taken.0 _ _ (i.taken.2 told) (omega (arith, counted, within, room))
+    (record { taken = take n c.read.new.buf; whole = e.bytes (told_before i.told told); few = omega (arith, length-take n c.read.new.buf) })

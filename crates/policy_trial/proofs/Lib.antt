@@ -1,0 +1,3 @@
+pub mod OneTrial
+pub mod Rows
+pub mod TrialLemmas

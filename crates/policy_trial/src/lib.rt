@@ -1,0 +1,11 @@
+//! Trials: what the policy of a zone that a number makes comes to.
+#![tactic(auto)]
+
+mod generated;
+mod laws;
+mod summary;
+mod trial;
+
+pub use laws::one_trial;
+pub use summary::Summary;
+pub use trial::run_trial;

@@ -1,0 +1,10 @@
+//! Zones of any size that are valid, made from a number, for trials of large input.
+#![tactic(auto)]
+
+mod draws;
+mod laws;
+mod network;
+mod zone;
+
+pub use laws::first_of_zero;
+pub use zone::generate;
