@@ -1,0 +1,160 @@
+"""Looks into the files and asks the program, to say more of a line than the line does."""
+
+from collections.abc import Iterator
+from itertools import count
+from pathlib import Path
+
+from admin.asking import Asker
+from admin.commands import Words
+from admin.program import USAGE, Program
+from admin.reading_lines import Line, read_line
+from admin.texts import texts_at
+
+_MOST = {"lookups": 20, "voids": 20, "exchanges": 100}
+_LEAST = {"lookups": 10, "voids": 2, "exchanges": 10}
+_MOST_SIZE, _LEAST_SIZE = 4096, 64
+_SHOWN_LINES = 3
+
+
+class Looker:
+    """What can be said of a line with the words of its command at hand."""
+
+    def __init__(self, program: Program, words: Words) -> None:
+        self._program = program
+        self._words = words
+        self._asker = Asker(program, words.reading, words.zones)
+        self._domain = words.places[0]
+
+    def look(self, line: Line) -> Iterator[str]:
+        """Lines that say more."""
+        if line.cause is not None:
+            yield from self._record(line.words["NAME"], int(line.words["TERM"]))
+            yield from self._of_cause(line)
+        elif line.form.startswith("refused taken"):
+            yield from self._free_label()
+        elif line.form == "too big":
+            yield from self._size_that_does()
+        elif line.form.startswith("bad zone"):
+            yield from _lines_of(Path(line.words["FILE"]), int(line.words["LINE"]))
+
+    def _record(self, name: str, term: int) -> Iterator[str]:
+        """The SPF records at the name, their terms numbered, with the term marked."""
+        texts = texts_at(name, self._domain, self._words.reading, self._words.zones, self._program)
+        for text in texts:
+            yield f"The record at {name}:"
+            for number, part in enumerate(text.split()[1:], 1):
+                yield f"{'-->' if number == term else '   '} {number:3} {part}"
+
+    def _of_cause(self, line: Line) -> Iterator[str]:
+        match line.cause:
+            case "lookups" | "voids" | "exchanges":
+                yield from self._counted(line)
+            case "syntax":
+                yield from self._misspelled(line.words["NAME"])
+            case "outside":
+                yield from self._outside()
+            case "missing":
+                yield from self._missing(line)
+
+    def _address(self, line: Line) -> str:
+        return line.words.get("ADDRESS") or self._words.places[1]
+
+    def _counted(self, line: Line) -> Iterator[str]:
+        """How far the limit had to be raised, and each place at which it is passed until then."""
+        cause, address = str(line.cause), self._address(line)
+        others = [
+            word
+            for name in ("lookups", "voids", "exchanges")
+            if name != cause
+            for word in self._words.option(f"--{name}")
+        ]
+        shown = None
+        for limit in range(_LEAST[cause], _MOST[cause] + 1):
+            found = read_line(self._asker.outcome(self._domain, address, [*others, f"--{cause}", str(limit)]))
+            if found is None or found.cause != cause:
+                yield f"For {address} it takes {limit}: --{cause} {limit} reads it."
+                return
+            place = f"term {found.words['TERM']} of {found.words['NAME']}"
+            if place != shown:
+                yield f"Too many for a limit of {limit}: {place}"
+            shown = place
+        yield f"For {address} it takes more than {_MOST[cause]}."
+
+    def _misspelled(self, name: str) -> Iterator[str]:
+        """The terms that break the grammar, each alone or behind those before it."""
+        for text in texts_at(name, self._domain, self._words.reading, self._words.zones, self._program):
+            terms = text.split(" ")[1:]
+            alone = [term for term in terms if term and self._asker.is_misspelled(f"v=spf1 {term}")]
+            for term in alone:
+                yield f"This is no term of an SPF record: {term}"
+            if not alone:
+                prefixes = (terms[:end] for end in range(1, len(terms) + 1))
+                first = next(
+                    (part for part in prefixes if self._asker.is_misspelled(" ".join(["v=spf1", *part]))), None
+                )
+                if first:
+                    yield f"This term may not stand behind those before it: {first[-1]}"
+
+    def _outside(self) -> Iterator[str]:
+        """The questions that no file answers."""
+        asked = self._program.run(["deps", self._domain, *self._words.reading, *self._words.zones])
+        for question in asked.output.splitlines() if asked.status == 0 else ():
+            if self._asker.is_outside(question):
+                yield f"No file answers this question: {question}"
+
+    def _missing(self, line: Line) -> Iterator[str]:
+        """What the name of an include or a redirect has."""
+        texts = texts_at(line.words["NAME"], self._domain, self._words.reading, self._words.zones, self._program)
+        terms = [text.split()[1:] for text in texts]
+        number = int(line.words["TERM"]) - 1
+        for part in terms:
+            target = part[number].partition(":")[2] or part[number].partition("=")[2]
+            if "%" not in target:
+                outcome = self._asker.outcome(target.lower().removesuffix("."), self._address(line))
+                yield f"Asked for {target}, the files say: {outcome or 'no legal name'}"
+
+    def _free_label(self) -> Iterator[str]:
+        """A label under which no name is taken."""
+        for letter in "abcdefghijklmnopqrstuvwxyz":
+            line = self._compiled("--label", f"_spf{letter}")
+            if not line.startswith("refused taken"):
+                yield f"This label is free in the files: --label _spf{letter}"
+                return
+        yield "The labels _spfa to _spfz are taken too."
+
+    def _size_that_does(self) -> Iterator[str]:
+        """The least size for which the list fits, by halves: what fits a size fits each larger one."""
+        low, high = _LEAST_SIZE, _MOST_SIZE
+        if self._compiled("--size", str(high)) == "too big":
+            yield f"Not even --size {high} would do."
+            return
+        while low < high:
+            middle = (low + high) // 2
+            low, high = (middle + 1, high) if self._compiled("--size", str(middle)) == "too big" else (low, middle)
+        yield f"The least size that does: --size {low}"
+
+    def _compiled(self, option: str, value: str) -> str:
+        """The line of the same command with another value of an option."""
+        words = self._words
+        options = [*words.without(option), option, value]
+        return self._program.run([words.command, *words.places, *options, *words.zones]).line
+
+
+def wrong_words(program: Program, given: list[str]) -> Iterator[str]:
+    """The words without which, or without which and the next, the others give a job."""
+    for at in range(1, len(given)):
+        for length in (1, 2):
+            rest = given[:at] + given[at + length :]
+            if at + length <= len(given) and program.run(rest).status != USAGE:
+                yield " ".join(given[at : at + length])
+                return
+
+
+def _lines_of(path: Path, first: int) -> Iterator[str]:
+    """The lines of a file that an entry begins with."""
+    try:
+        lines = path.read_text(encoding="latin-1").split("\n")
+    except OSError:
+        return
+    for number, text in zip(count(first), lines[first - 1 : first - 1 + _SHOWN_LINES]):
+        yield f"{number:5}: {text.rstrip()}"

@@ -1,0 +1,206 @@
+"""spfc-nightly: says whether what a domain publishes still gives every address the verdict of its policy.
+
+The policy is the old record, the one with the includes, in a file. A line with one of these words and the domain goes
+to standard output, and lines that say more behind it.
+
+    0 same      the records that DNS has give the verdicts of the policy
+    1 changed   they do not: FILE is the fragment to publish, with the label that is not in use
+    2 refused   the policy has no flat records today, or too many addresses lose their pass
+    3 unknown   DNS did not answer; nothing is known and nothing is written
+    4           the words are none of this tool's
+"""
+
+import argparse
+import enum
+import sys
+from collections.abc import Sequence
+from dataclasses import dataclass, replace
+
+from admin import policy, words, written
+from admin.ending import Ending, Status
+from admin.gathering import Gathered, Gathering, Request
+from admin.names import read
+from admin.program import Program, Run, opened_program
+from admin.progress import Progress
+from admin.questions import Kind, Question
+
+TOOL = "spfc-nightly"
+_LABELS = ("_spfa", "_spfb")
+_NOBODYS_LABEL = "_spfc-nightly"
+_REFUSED = (1, 2)
+_EXCHANGES = 10
+
+
+class Verdict(enum.IntEnum):
+    """What a night ends with."""
+
+    SAME = 0
+    CHANGED = 1
+    REFUSED = 2
+    UNKNOWN = 3
+
+
+@dataclass(frozen=True)
+class Change:
+    """How many addresses have one verdict by what is published, and another by the policy."""
+
+    old: str
+    new: str
+    least: str
+    count: int
+
+    @property
+    def text(self) -> str:
+        """In words."""
+        return f"{self.count} addresses, the least {self.least}, from {self.old} to {self.new}"
+
+
+class Nightly:
+    """One night's work for a domain."""
+
+    def __init__(self, arguments: argparse.Namespace, program: Program) -> None:
+        self._arguments = arguments
+        self._program = program
+        self._domain = arguments.domain
+        self._reading = words.given(arguments, words.READING)
+        self._compiling = [*self._reading, *words.given(arguments, ("size", "ttl"))]
+        self._request = Request(self._domain, self._reading, int(arguments.exchanges or _EXCHANGES))
+        self._policy = policy.read_policy(arguments.policy, program)
+
+    def run(self) -> Verdict:
+        """Gathers what is published and what the policy says today, and compares their verdicts."""
+        live = self._gathered(self._request)
+        source = self._gathered(replace(self._request, policy=self._policy))
+        live_zone, zone = live.world.zone(), source.world.zone()
+        wanted = self._compiled(_NOBODYS_LABEL, zone)
+        if wanted.status:
+            return self._refused(wanted)
+        published = self._compiled(_NOBODYS_LABEL, live_zone)
+        if published.status == 0 and published.output == wanted.output:
+            return self._end(Verdict.SAME, zone)
+        if published.status:
+            print(f"published: {published.line}", file=sys.stderr)
+        changes = self._changes(live_zone, zone) if published.status == 0 else []
+        lost = sum(change.count for change in changes if change.old == "pass")
+        if self._arguments.max_lost is not None and lost > self._arguments.max_lost:
+            return self._end(Verdict.REFUSED, None, f"{lost} addresses lose their pass", *(one.text for one in changes))
+        return self._publish(live, changes)
+
+    def _publish(self, live: Gathered, changes: list[Change]) -> Verdict:
+        """Writes the fragment under the label that is not in use."""
+        label = self._unused_label(live)
+        source = self._gathered(replace(self._request, policy=self._policy, label=label))
+        zone = source.world.zone()
+        fragment = self._compiled(label, zone)
+        if fragment.status:
+            return self._refused(fragment)
+        written.write(self._arguments.output, fragment.output)
+        return self._end(Verdict.CHANGED, zone, *(change.text for change in changes))
+
+    def _gathered(self, request: Request) -> Gathered:
+        progress = Progress(TOOL)
+        try:
+            return Gathering(request, self._program, words.resolver(self._arguments), progress).gather()
+        finally:
+            progress.clear()
+
+    def _compiled(self, label: str, zone: str) -> Run:
+        return self._program.over(["compile", self._domain, "--label", label, *self._compiling], zone)
+
+    def _unused_label(self, live: Gathered) -> str:
+        """That of the two labels under which the published chain has no record."""
+        one, other = self._arguments.labels
+        is_used = Question(read(f"{one}1.{self._domain}"), Kind.TXT) in live.questions
+        return str(other if is_used else one)
+
+    def _changes(self, live: str, zone: str) -> list[Change]:
+        """What `compare` says, where the program has it."""
+        before = self._program.folder / "published"
+        before.write_text(live, encoding="latin-1")
+        command = ["compare", self._domain, self._domain, *self._reading, f".={before}", "with"]
+        ended = self._program.over(command, zone)
+        lines = [line.split(" ") for line in ended.output.splitlines() if line.startswith("differ ")]
+        return [Change(old, new, least, _number(least, count)) for _, old, new, least, count in lines]
+
+    def _refused(self, ended: Run) -> Verdict:
+        print(ended.line, file=sys.stderr)
+        return self._end(Verdict.REFUSED if ended.status in _REFUSED else Verdict.UNKNOWN, None)
+
+    def _end(self, verdict: Verdict, zone: str | None, *lines: str) -> Verdict:
+        """Prints what the night ends with, and which answers changed since the kept list was written."""
+        print(f"{verdict.name.lower()} {self._domain}", *lines, sep="\n")
+        if self._arguments.kept is not None and zone is not None:
+            self._print_answers(zone)
+        return verdict
+
+    def _print_answers(self, zone: str) -> None:
+        """Prints the questions whose answers changed, and keeps those of today."""
+        kept = self._program.over(["keep", self._domain, *self._reading], zone).output
+        path = self._arguments.kept
+        if path.exists():
+            old, new = (_answers(text) for text in (path.read_text(encoding="latin-1"), kept))
+            for question in sorted({*old, *new}):
+                if old.get(question) != new.get(question):
+                    print(f"answered otherwise: {question}")
+        written.write(path, kept)
+
+
+def _answers(kept: str) -> dict[str, str]:
+    """The answers of a kept list, by the questions. A name that is not there is as void as one without data."""
+    lines = [line.split(" ", 2) for line in kept.splitlines() if not line.startswith(";")]
+    return {f"{name} {kind}": "nodata" if answer == "noname" else answer for name, kind, answer in lines}
+
+
+def _number(least: str, count: str) -> int:
+    """The number of a count of `compare`, where `all` is each address of the family."""
+    return int(count) if count.isdigit() else 1 << (128 if ":" in least else 32)
+
+
+def _labels(text: str) -> tuple[str, str]:
+    one, comma, other = text.lower().partition(",")
+    if not comma or one == other:
+        raise argparse.ArgumentTypeError(f"{text} is no two labels")
+    return one, other
+
+
+def _parser() -> words.Parser:
+    parser = words.Parser(prog=TOOL, description=(__doc__ or "").partition("\n")[0], allow_abbrev=False)
+    parser.add_argument("domain", metavar="DOMAIN", type=words.domain, help="the domain that publishes flat records")
+    parser.add_argument("policy", metavar="POLICY", type=words.path, help="a file with the text of its old record")
+    parser.add_argument("output", metavar="FILE", type=words.path, help="the fragment goes here where it is to change")
+    words.add_server(parser)
+    parser.add_argument("--labels", metavar="A,B", type=_labels, default=_LABELS, help="labels to use by turns")
+    parser.add_argument(
+        "--kept", metavar="FILE", type=words.path, help="keep each night's answers here, and say which changed"
+    )
+    parser.add_argument("--max-lost", metavar="N", type=int, help="refuse where more addresses lose their pass")
+    words.add_options(parser, (*words.READING, "size", "ttl"))
+    return parser
+
+
+def _judge(program: Program, arguments: argparse.Namespace) -> None:
+    """Has the program say whether it takes the words, and whether it has the commands that they need."""
+    reading = words.given(arguments, words.READING)
+    for label in arguments.labels:
+        options = [*reading, *words.given(arguments, ("size", "ttl")), "--label", label]
+        words.judge(program, ["compile", arguments.domain, *options])
+    wanted = {"deps": True, "keep": arguments.kept is not None}
+    for command in (name for name, is_wanted in wanted.items() if is_wanted):
+        if not program.knows(command, arguments.domain, *reading):
+            raise Ending(Status.TOOL, f"{program.path} has no command {command}")
+    if arguments.max_lost is not None and not program.knows("compare", arguments.domain, arguments.domain, *reading):
+        raise Ending(Status.TOOL, f"{program.path} has no command compare, which --max-lost needs")
+
+
+def main(given: Sequence[str]) -> int:
+    """Does one night's work, and gives the status."""
+    arguments = _parser().parse_intermixed_args(given)
+    with opened_program() as program:
+        _judge(program, arguments)
+        try:
+            return Nightly(arguments, program).run()
+        except Ending as ending:
+            if ending.status in (Status.USAGE, Status.UNWRITTEN):
+                raise
+            print(f"unknown {arguments.domain}")
+            raise Ending(Verdict.UNKNOWN, *ending.lines) from ending

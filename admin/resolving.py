@@ -1,0 +1,96 @@
+"""Asks name servers."""
+
+import socket
+import time
+from collections.abc import Callable, Iterable
+from concurrent.futures import ThreadPoolExecutor
+from dataclasses import dataclass
+
+import dns.exception
+import dns.message
+import dns.query
+import dns.rcode
+import dns.resolver
+
+from admin.answers import Answer, Failure
+from admin.ending import Ending, Status
+from admin.questions import Kind, Question
+from admin.replies import ANSWERED, has_alias, read_reply
+
+_PAUSE = 1.0
+"""Seconds between two tries of one question."""
+_PAYLOAD = 1232
+"""Octets of a reply over UDP that is not cut on its way; a longer one comes over TCP."""
+
+Learned = list[tuple[Question, Answer]]
+
+
+def addresses(server: str | None) -> tuple[str, ...]:
+    """The addresses of a server by its name or address, or those of the resolvers of this machine."""
+    try:
+        if server is None:
+            return tuple(str(address) for address in dns.resolver.get_default_resolver().nameservers)
+        return tuple(dict.fromkeys(str(found[4][0]) for found in socket.getaddrinfo(server, None)))
+    except (OSError, UnicodeError, dns.exception.DNSException) as error:
+        raise Ending(Status.TOOL, f"no name server {server or 'is named on this machine'}: {error}") from error
+
+
+@dataclass(frozen=True)
+class Resolver:
+    """Name servers, and how patiently they are asked."""
+
+    servers: tuple[str, ...]
+    port: int = 53
+    tries: int = 3
+    seconds: float = 5.0
+    at_once: int = 8
+
+    def ask_all(self, questions: Iterable[Question], tell: Callable[[int, Question], None]) -> Learned:
+        """Asks all, some at a time, and gives what was learned in the order of the questions."""
+        learned: Learned = []
+        listed = list(questions)
+        with ThreadPoolExecutor(self.at_once) as pool:
+            try:
+                for number, facts in enumerate(pool.map(self.ask, listed)):
+                    tell(number, listed[number])
+                    learned += facts
+            except BaseException:
+                pool.shutdown(wait=False, cancel_futures=True)
+                raise
+        return learned
+
+    def ask(self, question: Question) -> Learned:
+        """Asks one question, anew where it fails, each time of the next server."""
+        learned: Learned = []
+        for attempt in range(self.tries):
+            if attempt:
+                time.sleep(_PAUSE)
+            learned, is_final = self._try(question, self.servers[attempt % len(self.servers)])
+            if is_final:
+                break
+        return learned
+
+    def _try(self, question: Question, server: str) -> tuple[Learned, bool]:
+        """What one server says, and whether it need not be asked again.
+
+        A resolver that gives up on a chain of aliases is asked for one step of it.
+        """
+        reply = self._exchange(question, server)
+        if isinstance(reply, Failure):
+            return [(question, reply)], False
+        if reply.rcode() == dns.rcode.SERVFAIL:
+            step = self._exchange(Question(question.name, Kind.CNAME), server)
+            if not isinstance(step, Failure) and has_alias(step, question.name):
+                return list(read_reply(question, step)), True
+        is_refused = reply.rcode() == dns.rcode.REFUSED and len(self.servers) == 1
+        return list(read_reply(question, reply)), is_refused or reply.rcode() in ANSWERED
+
+    def _exchange(self, question: Question, server: str) -> dns.message.Message | Failure:
+        """A query and its reply, over TCP where UDP has no room for it."""
+        query = dns.message.make_query(question.name, question.kind, use_edns=0, payload=_PAYLOAD)
+        try:
+            return dns.query.udp_with_fallback(query, server, self.seconds, self.port, ignore_unexpected=True)[0]
+        except (dns.exception.Timeout, OSError, EOFError):
+            return Failure("no reply")
+        except dns.exception.DNSException:
+            return Failure("malformed reply")

@@ -1,0 +1,107 @@
+"""Makes records of what DNS answered, so that spfc gets from them the answers that DNS gave."""
+
+from collections.abc import Iterable, Iterator
+
+from dns.name import Name
+
+from admin import names
+from admin.answers import Alias, Answer, Data, Facts, Failure, Void
+from admin.closing import OUT, closing
+from admin.ending import Ending, Status
+from admin.questions import Kind, Question
+from admin.records import Record, marker
+
+
+class World:
+    """The records that answer some questions as the facts do.
+
+    - A step of an alias is a CNAME record of its own. Where a name is an alias for some kinds alone, or leads to
+      different names, no CNAME record could stand there: what the aliases lead to is written at the name.
+    - A name that has nothing of what was asked, or does not exist, has a marker, so that it is void.
+    - A name that must not stand by itself (`floating`: it does not exist, or a wildcard answers for it, and whether it
+      stands there matters) is written as the wildcard below the name above it, as are all names below it.
+    """
+
+    def __init__(self, facts: Facts, questions: Iterable[Question], floating: Iterable[Name]) -> None:
+        self._facts = facts
+        self._questions = list(questions)
+        self._floating = frozenset(floating)
+        self._kinds: dict[Name, set[Kind]] = {}
+        for question in self._questions:
+            for step in facts.chain(question).steps:
+                self._kinds.setdefault(step.name, set()).add(step.kind)
+        self._written: dict[tuple[Name, str], frozenset[Record]] = {}
+
+    def failures(self) -> Iterator[str]:
+        """A line for each question that no server answered."""
+        for question in self._questions:
+            answer = self._facts.answer(end := self._facts.chain(question).end)
+            if isinstance(answer, Failure):
+                yield f"no answer {end}: {answer.why}"
+
+    def records(self) -> set[Record]:
+        """The records, or the end where the answers contradict each other."""
+        self._written.clear()
+        for question in self._questions:
+            self._write(question)
+        records = {record for written in self._written.values() for record in written}
+        if any(record.owner.is_subdomain(OUT) for record in records):
+            raise Ending(Status.CONTRADICTION, f"contradiction: the policy asks for {names.printed(OUT)}")
+        return records
+
+    def zone(self) -> str:
+        """The records as a master file of the root, and behind them those that close the world."""
+        records = self.records()
+        closed = closing(record.owner for record in records)
+        lines = [*sorted(map(str, records)), "; What was not asked leads out of this file:", *sorted(map(str, closed))]
+        return "\n".join(lines) + "\n"
+
+    def absent(self) -> set[Name]:
+        """The names that DNS said do not exist."""
+        ends = [self._facts.chain(question).end for question in self._questions]
+        return {end.name for end in ends if self._facts.answer(end) is Void.NO_NAME}
+
+    def is_mixed(self, name: Name) -> bool:
+        """Whether the name is an alias for some kinds of records, and has others or another target besides."""
+        answers = {kind: self._facts.answer(Question(name, kind)) for kind in self._kinds.get(name, ())}
+        targets = {answer.target for answer in answers.values() if isinstance(answer, Alias)}
+        others = any(isinstance(answer, Data | Void) for kind, answer in answers.items() if kind is not Kind.CNAME)
+        return len(targets) > 1 or bool(targets and others)
+
+    def _write(self, question: Question) -> None:
+        """Writes the steps of the chain, up to its end or to a name that is mixed."""
+        chain = self._facts.chain(question)
+        for step in chain.steps:
+            answer = self._facts.answer(step)
+            if self.is_mixed(step.name):
+                if chain.is_round:
+                    raise Ending(Status.CONTRADICTION, f"contradiction: {step} goes round, and has other records")
+                self._put(step, _beside_others(self._facts.answer(chain.end)))
+                return
+            self._put(step, answer)
+
+    def _put(self, step: Question, answer: Answer | None) -> None:
+        owner = self._owner(step.name)
+        match answer:
+            case Alias():
+                self._add(owner, step.kind, {Record(owner, "CNAME", names.absolute(answer.target))})
+            case Data():
+                self._add(owner, step.kind, {Record(owner, step.kind, item) for item in answer.items})
+            case Void():
+                self._add(owner, step.kind, {marker(owner)})
+
+    def _add(self, owner: Name, kind: Kind, records: set[Record]) -> None:
+        if self._written.setdefault((owner, kind), frozenset(records)) != records:
+            raise Ending(Status.CONTRADICTION, f"contradiction: {names.printed(owner)} {kind} has different answers")
+
+    def _owner(self, name: Name) -> Name:
+        """The name itself, or the wildcard that is written for it."""
+        uppermost = next((upper for upper in reversed(names.with_ancestors(name)) if upper in self._floating), None)
+        if uppermost is None:
+            return name
+        return Name((names.WILDCARD, *uppermost.parent().labels))
+
+
+def _beside_others(answer: Answer | None) -> Answer | None:
+    """What is written of an answer at a name that has other records: no alias may stand beside them."""
+    return Void.NO_DATA if isinstance(answer, Alias) else answer

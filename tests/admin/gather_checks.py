@@ -1,0 +1,177 @@
+"""What spfc-gather does beside the cases: servers that misbehave, statuses, words, and options of its own."""
+
+from collections.abc import Callable, Iterator
+from dataclasses import dataclass
+from functools import partial
+from pathlib import Path
+
+import servers
+from scene import Ended, Report, Scene
+
+
+@dataclass(frozen=True)
+class Fault:
+    """What is gathered from the server that misbehaves."""
+
+    domain: str
+    line: str = ""
+    outcomes: tuple[tuple[str, str], ...] = ()
+    options: tuple[str, ...] = ("--no-names",)
+
+
+_FAULTS = [
+    Fault(
+        "mix",
+        outcomes=(("2001:db8::66", "pass"), ("192.0.2.77", "pass"), ("192.0.2.44", "pass"), ("192.0.2.5", "pass")),
+    ),
+    Fault("xloop", outcomes=(("192.0.2.1", "pass"), ("192.0.2.3", "temperror alias r1.fake.test 0"))),
+    Fault("xstep", outcomes=(("192.0.2.3", "pass"), ("192.0.2.4", "fail"))),
+    Fault("ok", outcomes=(("192.0.2.9", "pass"), ("2001:db8::9", "pass"))),
+    Fault("early", outcomes=(("192.0.2.9", "pass"), ("::1", "pass"))),
+    Fault("nxe", outcomes=(("192.0.2.30", "pass"), ("192.0.2.31", "fail"))),
+    Fault("eight", outcomes=(("192.0.2.3", "pass"),)),
+    Fault("nine", outcomes=(("192.0.2.3", "temperror alias hand0.fake.test 0"),)),
+    Fault("dead", "no answer servfail.fake.test TXT: SERVFAIL"),
+    Fault("black", outcomes=(("192.0.2.1", "pass"), ("192.0.2.2", "fail")), options=()),
+    Fault("xservfail", "no answer servfail.fake.test TXT: SERVFAIL"),
+    Fault("xrefused", "no answer refused.fake.test TXT: REFUSED"),
+    Fault("xnotimp", "no answer notimp.fake.test TXT: NOTIMP"),
+    Fault("xjunk", "no answer junk.fake.test TXT: malformed reply"),
+    Fault("xreferral", "no answer referral.fake.test TXT: referral, no answer"),
+    Fault("xsilent", "no answer silent.fake.test TXT: no reply"),
+    Fault("xtrunc", "no answer trunc.fake.test TXT: no reply"),
+]
+
+_USAGE = [
+    "",
+    "no_dots",
+    "-x.test",
+    "a..test",
+    "taken.test --lookups 9",
+    "taken.test --lookups 21",
+    "taken.test --lookups",
+    "taken.test extra",
+    "taken.test --label x",
+    "taken.test --jobs 0",
+    "taken.test -p x",
+    "taken.test --size 4097",
+]
+
+
+def checks(scene: Scene, bad: servers.Server) -> Iterator[Callable[[], Report]]:
+    """All checks. The server `bad` is the one that misbehaves."""
+    for fault in _FAULTS:
+        yield partial(_misbehaving, fault, scene, bad)
+    for check in (_unanswered, _words, _held, _twice, _written, _closed):
+        yield partial(check, scene)
+
+
+def _misbehaving(fault: Fault, scene: Scene, bad: servers.Server) -> Report:
+    """The status and the line, that nothing is written where there is no answer, and what spfc says otherwise."""
+    report = Report()
+    domain = f"{fault.domain}.fake.test"
+    folder = scene.folder(f"fault-{fault.domain}")
+    words = (domain, *fault.options, "--tries", "3", "--time", "1", "-o", "gathered")
+    ended = scene.gather(*words, server=bad, folder=folder)
+    wanted = Ended(1 if fault.line else 0, "", f"spfc-gather: {fault.line}" if fault.line else "")
+    report.expect(domain, wanted, ended)
+    report.expect(f"{domain}: written", not fault.line, (folder / "gathered").exists())
+    for address, outcome in fault.outcomes if ended.status == 0 else ():
+        found = scene.spfc("check", domain, address, ".=gathered", folder=folder)
+        report.expect(f"{domain} {address}", Ended(0, f"{outcome}\n", ""), found)
+    if fault.domain == "black":
+        taken = scene.spfc("compile", domain, "--size", "100", ".=gathered", folder=folder)
+        report.expect(f"{domain}: taken", "refused taken 3 _spf3.black.fake.test", taken.line)
+    return report
+
+
+def _unanswered(scene: Scene) -> Report:
+    """A zone that is not loaded, one that the server does not have, a delegation that leads nowhere."""
+    report = Report()
+    lines = {
+        "broke.deleg.test": "no answer _spf.broken.test TXT: SERVFAIL",
+        "out.deleg.test": "no answer _spf.nowhere.invalid TXT: REFUSED",
+        "ref.deleg.test": "no answer x.dead.deleg.test TXT: referral, no answer",
+        "taken.test --label _d": "no answer _d1.taken.test CNAME: referral, no answer",
+    }
+    for words, line in lines.items():
+        ended = scene.gather(*words.split(), "--tries", "1", "--time", "1")
+        report.expect(words, Ended(1, "", f"spfc-gather: {line}"), ended)
+    ended = scene.gather("taken.test", "--label", "_d", "--no-names")
+    report.expect("without names", (0, ""), (ended.status, ended.line))
+    nobody = scene.tool("spfc-gather", "taken.test", "@127.0.0.1", "-p", str(servers.free_port()), "--tries", "1")
+    report.expect("no server", Ended(1, "", "spfc-gather: no answer taken.test TXT: no reply"), _first_line(nobody))
+    return report
+
+
+def _first_line(ended: Ended) -> Ended:
+    return Ended(ended.status, ended.output, ended.line.split("\n")[0])
+
+
+def _words(scene: Scene) -> Report:
+    """Words that are none of spfc-gather's, and those that mean the same."""
+    report = Report()
+    for words in _USAGE:
+        ended = scene.tool("spfc-gather", *words.split())
+        report.expect(f"usage: {words}", (4, ""), (ended.status, ended.output))
+    report.expect("dots and case", scene.gather("taken.test"), scene.gather("Taken.Test."))
+    return report
+
+
+def _held(scene: Scene) -> Report:
+    """Whether a file has what spfc asks under other options."""
+    report = Report()
+    folder = scene.folder("held")
+    scene.gather("taken.test", "-o", "held", folder=folder)
+    scene.gather("d1.limit.test", "-o", "deep", folder=folder)
+    holds = {
+        ("taken.test", "held", "--size", "100"): (0, ""),
+        ("taken.test", "held", "--label", "_q"): (1, "not asked: whether _q1.taken.test to _q10.taken.test are free"),
+        ("d1.limit.test", "deep"): (0, ""),
+        ("d1.limit.test", "deep", "--lookups", "20"): (1, "not asked: d12.limit.test TXT"),
+    }
+    for (domain, file, *options), (status, line) in holds.items():
+        ended = scene.tool("spfc-gather", domain, "--holds", file, *options, folder=folder)
+        wanted = Ended(status, "", f"spfc-gather: {line}" if line else "")
+        report.expect(f"holds {domain} {options}", wanted, ended)
+    return report
+
+
+def _twice(scene: Scene) -> Report:
+    """Gathering twice gives the same bytes, however many questions are asked at once."""
+    report = Report()
+    first = scene.gather("odd.test")
+    report.expect("twice the same", first, scene.gather("odd.test", "--jobs", "1"))
+    report.expect("no TTL", [], [line for line in first.output.splitlines() if " IN " not in line and line[0] != ";"])
+    return report
+
+
+def _written(scene: Scene) -> Report:
+    """A file is written whole or not at all."""
+    report = Report()
+    folder = scene.folder("written")
+    (folder / "old").write_text("old")
+    report.expect("no folder", 6, scene.gather("nx.test", "-o", "nowhere/file", folder=folder).status)
+    report.expect("no answer", 1, scene.gather("out.deleg.test", "--tries", "1", "-o", "old", folder=folder).status)
+    report.expect("the old file", ("old", ["old"]), ((folder / "old").read_text(), _listed(folder)))
+    report.expect("written over", 0, scene.gather("nx.test", "-o", "old", folder=folder).status)
+    gathered = (folder / "old").read_text(encoding="latin-1")
+    report.expect("the new file", (scene.gather("nx.test").output, ["old"]), (gathered, _listed(folder)))
+    return report
+
+
+def _listed(folder: Path) -> list[str]:
+    return sorted(file.name for file in folder.iterdir())
+
+
+def _closed(scene: Scene) -> Report:
+    """What was not gathered lies outside the file, and is not taken for a name that does not exist."""
+    report = Report()
+    folder = scene.folder("closed")
+    scene.gather("nx.test", "-o", "gathered", folder=folder)
+    for domain in ("other.test", "a.nx.test", "below.gone.nx.test", "ent.nx.test", "not-gathered.invalid", "x.invalid"):
+        found = scene.spfc("check", domain, "192.0.2.1", ".=gathered", folder=folder)
+        report.expect(f"closed: {domain}", f"open outside {domain} 0\n", found.output)
+    found = scene.spfc("check", "gone.nx.test", "192.0.2.1", ".=gathered", folder=folder)
+    report.expect("a name that does not exist", "none norecord gone.nx.test 0\n", found.output)
+    return report

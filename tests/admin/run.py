@@ -1,0 +1,99 @@
+"""Runs the checks of the tools for administrators."""
+
+import argparse
+import os
+import signal
+import sys
+import tempfile
+import time
+from collections.abc import Callable, Iterator
+from concurrent.futures import ThreadPoolExecutor
+from contextlib import ExitStack
+from functools import partial
+from pathlib import Path
+
+import gather_cases
+import gather_checks
+import nightly_checks
+import servers
+from scene import TOP, ZONES, Report, Scene
+
+Check = Callable[[], Report]
+
+
+def _arguments() -> argparse.Namespace:
+    parser = argparse.ArgumentParser(prog="bin/test-admin", description=__doc__, allow_abbrev=False)
+    parser.add_argument("--program", type=Path, default=TOP / "crates/spfc/out/spfc", help="the program to try")
+    parser.add_argument("--tools", type=Path, default=TOP / "bin", help="the folder of the tools to try")
+    parser.add_argument("--all", action="store_true", help="all cases of spfc-gather, not the main ones alone")
+    parser.add_argument("--nsd", action="store_true", help="gather each case from nsd too")
+    parser.add_argument("--forwarding", action="store_true", help="gather each case from a forwarding named too")
+    parser.add_argument("--addresses", type=int, default=10, help="try so many addresses in each main case")
+    parser.add_argument("--jobs", type=int, default=len(os.sched_getaffinity(0)), help="run so many checks at once")
+    parser.add_argument("names", metavar="NAME", nargs="*", help="these cases of spfc-gather alone")
+    return parser.parse_args()
+
+
+def _checks(arguments: argparse.Namespace, scene: Scene, bad: servers.Server) -> Iterator[Check]:
+    if not arguments.names:
+        yield partial(nightly_checks.check, scene)
+        yield from gather_checks.checks(scene, bad)
+    for case in gather_cases.cases(are_all=arguments.all or bool(arguments.names)):
+        if not arguments.names or case.name in arguments.names:
+            yield partial(gather_cases.check, case, scene)
+
+
+def _others(
+    arguments: argparse.Namespace, stack: ExitStack, scratch: Path, upstream: servers.Server
+) -> list[servers.Server]:
+    """The servers beside the main one from which each case is gathered too."""
+    others = []
+    if arguments.forwarding:
+        others.append(stack.enter_context(servers.forwarding(scratch / "forwarding", upstream)))
+    if arguments.nsd and not servers.has_tool("nsd"):
+        print("test-admin: nsd is not installed: nothing is gathered from it")
+    elif arguments.nsd:
+        others.append(stack.enter_context(servers.nsd(scratch / "nsd", ZONES)))
+    for server in others:
+        server.wait_for("example.com")
+    return others
+
+
+def _report(check: Check) -> Report:
+    return check()
+
+
+def _run(checks: Iterator[Check], jobs: int) -> Report:
+    """Runs all checks, some at a time, and prints what is wrong as it is found."""
+    total = Report()
+    with ThreadPoolExecutor(jobs) as pool:
+        for report in pool.map(_report, checks):
+            total.add(report)
+            for line in report.wrong:
+                print(f"test-admin: {line}", flush=True)
+    return total
+
+
+def main() -> int:
+    """Runs the checks that the words ask for, and gives the status."""
+    arguments = _arguments()
+    if not servers.has_tool("named"):
+        print("test-admin: bind9 is not installed: the tools that ask name servers are not tried")
+        return 0
+    begun = time.monotonic()
+    signal.signal(signal.SIGTERM, lambda *_: sys.exit(1))
+    with ExitStack() as stack:
+        scratch = Path(stack.enter_context(tempfile.TemporaryDirectory(prefix="spfc-admin-")))
+        main_server = stack.enter_context(servers.named(scratch / "named", ZONES))
+        bad = stack.enter_context(servers.misbehaving(scratch / "misbehaving"))
+        main_server.wait_for("example.com")
+        bad.wait_for("long.fake.test")
+        others = _others(arguments, stack, scratch, main_server)
+        scene = Scene(arguments.tools, arguments.program.resolve(), scratch, main_server, others, arguments.addresses)
+        total = _run(_checks(arguments, scene, bad), arguments.jobs)
+    print(f"test-admin: {total.passed} passed, {len(total.wrong)} failed, {time.monotonic() - begun:.0f} s")
+    return 1 if total.wrong else 0
+
+
+if __name__ == "__main__":
+    sys.exit(main())
