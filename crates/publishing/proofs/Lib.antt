@@ -1,5 +1,4 @@
 pub mod BestPublication
-pub mod Evaluations
 pub mod LegalSettings
 pub mod OnePolicy
 pub mod OnePublication

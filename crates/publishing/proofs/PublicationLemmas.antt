@@ -7,13 +7,17 @@ use Rattle.zone_answers.specs.Zone.{Zone}
 use Rattle.spf_grammar.specs.declared.flat.FlatTerm.{FlatTerm}
 use Rattle.spf_grammar.specs.declared.verdict.Verdict.{Verdict}
 use Rattle.spf_model.specs.declared.outcome.Limits.{Limits}
+use Rattle.verdict_map.specs.declared.fault.VerdictFault.{VerdictFault}
+use Rattle.verdict_map.specs.declared.fault.VerdictFault.TheVariants.{Refused, Memory}
 use Rattle.fewest_terms.specs.Chosen.{chosen_list}
 use Rattle.fewest_terms.specs.Leaves.{verdict_at as trie_verdict}
 use Rattle.fewest_terms.specs.Row.{NeedRow}
 use Rattle.fewest_terms.specs.Tables.{need_rows}
 use Rattle.fewest_terms.specs.Totals.{total}
 use Rattle.loading.specs.declared.refusal.Refusal.{Refusal}
-use Rattle.publishing.specs.Policy.{IsRefusedAddress, KeepVerdicts, PolicyDue, refused, kept}
+use Rattle.loading.specs.Memory.{ErrorIs, refusal_of}
+use Rattle.policy_verdicts.specs.Policy.{IsPolicyFault, KeepVerdicts}
+use Rattle.publishing.specs.Policy.{PolicyDue, refused, kept}
 use Rattle.publishing.specs.Published.{IsChosenCut, IsTooBig, IsFirstTakenRefusal, is_record_taken}
 use Rattle.publishing.specs.Published.{ListDue, too_big, taken, PublicationDue, packed}
 use Rattle.publishing.specs.declared.settings.ChainSettings.{ChainSettings}
@@ -59,8 +63,10 @@ free_more want zones n free last j behind below = by (nat_lt j n) refl
         subst (λ (k : ℕ). is_record_taken want zones k ≡ false) same last
 
 -- ---- from the verdicts to the policy
-pub policy_refused : (want : ChainSettings) (limits : Limits) (zones : List Zone) (why : Refusal) → IsRefusedAddress limits zones want.domain.text why → PolicyDue want limits zones (Err why)
-policy_refused want limits zones why (address, outcome, least, is) = refused address outcome least (ap (λ (w : Refusal). Err w) is)
+pub policy_refused : (want : ChainSettings) (limits : Limits) (zones : List Zone) (fault : VerdictFault) → IsPolicyFault limits zones want.domain.text fault
+    → ErrorIs (λ why. PolicyDue want limits zones (Err why)) (refusal_of fault)
+policy_refused want limits zones (Refused address outcome) least = refused address outcome least refl
+policy_refused want limits zones Memory least = tt
 
 pub policy_written : {E : Type 0} (want : ChainSettings) (limits : Limits) (zones : List Zone) (v4 v6 : List (Cidr × Verdict)) (r : Result (List ℕ) E) → KeepVerdicts limits zones want.domain.text v4 v6
     → IfOk r (λ bytes. PublicationDue want zones (trie_verdict 32 v4) (trie_verdict 128 v6) (Ok bytes)) → IfOk r (λ bytes. PolicyDue want limits zones (Ok bytes))

@@ -15,10 +15,11 @@ use Rattle.spf_model.specs.Run.{Answering, says}
 use Rattle.spf_model.specs.Result as model
 use Rattle.spf_model.specs.Result.{AllHave}
 use Rattle.spf_model.proofs.OneOutcome.{one_verdict}
+use Rattle.policy_verdicts.specs.Policy.{verdict_at}
 use Rattle.published_records.proofs.Publishing.{holds_name}
 use Rattle.published_records.proofs.RecordChains.{unfolded}
 use Rattle.publishing.specs.Policy.{PolicyDue, refused, kept, IsShortest}
-use Rattle.publishing.specs.Published.{PublicationDue, IsBestPublication, verdict_at}
+use Rattle.publishing.specs.Published.{PublicationDue, IsBestPublication}
 use Rattle.publishing.specs.Settings.{AreLegal}
 use Rattle.publishing.specs.declared.settings.ChainSettings.{ChainSettings}
 use Rattle.publishing.proofs.BestPublication.{due_is_best, ok_not_err}

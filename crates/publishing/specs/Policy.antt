@@ -1,54 +1,21 @@
 -- What is due for the policy of a domain over zones, and what is best.
-use Rattle.std.specs.Prelude.{ℕ, ◌≡◌, ◌<◌, ◌≤◌, false, List, length, Result, Err}
-use Rattle.addr_bits.specs.Address.{IsAddress}
-use Rattle.addr_bits.specs.Prefix.{Cidr}
+use Rattle.std.specs.Prelude.{ℕ, ◌≡◌, ◌≤◌, List, length, Result, Err}
 use Rattle.addr_bits.specs.declared.address.Address.{Address}
-use Rattle.addr_bits.specs.declared.address.Address.TheVariants.{V4, V6}
 use Rattle.zone_answers.specs.Zone.{Zone}
 use Rattle.spf_grammar.specs.Families.{HavePrefixes}
 use Rattle.spf_grammar.specs.Flat.{first}
 use Rattle.spf_grammar.specs.declared.flat.FlatTerm.{FlatTerm}
 use Rattle.spf_grammar.specs.declared.verdict.Verdict.{Verdict}
-use Rattle.spf_model.specs.Result as model
 use Rattle.spf_model.specs.Result.{AllHave}
-use Rattle.spf_model.specs.Run.{Answering, says}
+use Rattle.spf_model.specs.Run.{says}
 use Rattle.spf_model.specs.declared.outcome.Limits.{Limits}
 use Rattle.spf_model.specs.declared.outcome.Outcome.{Outcome}
-use Rattle.spf_model.specs.declared.outcome.Outcome.TheVariants.{Is}
-use Rattle.verdict_map.specs.Verdicts.{has_verdict}
-use Rattle.fewest_terms.specs.Leaves.{verdict_at as trie_verdict}
+use Rattle.policy_verdicts.specs.Policy.{IsLeastRefused, verdict_at}
 use Rattle.published_records.specs.Published.{Stands}
 use Rattle.loading.specs.declared.refusal.Refusal.{Refusal}
 use Rattle.loading.specs.declared.refusal.Refusal.TheVariants.{NoVerdict}
-use Rattle.publishing.specs.Published.{PublicationDue, IsBestPublication, verdict_at}
+use Rattle.publishing.specs.Published.{PublicationDue, IsBestPublication}
 use Rattle.publishing.specs.declared.settings.ChainSettings.{ChainSettings}
-
--- project's own choice: addresses stand in the order of their numbers, those of IPv4 first
-abbrev pub StandsBefore : Address → Address → Type 0
-StandsBefore (V4 a) (V4 b) = a < b
-StandsBefore (V4 a) (V6 b) = Unit {0}
-StandsBefore (V6 a) (V4 b) = ⊥
-StandsBefore (V6 a) (V6 b) = a < b
-
--- RFC 7208, section 4: check_host gives the address this outcome, which is no verdict, and each address before it a
--- verdict
-pub record IsLeastRefused (zones : Answering) (limits : Limits) (domain : List ℕ) (address : Address)
-    (outcome : Outcome) : Type 0 where
-  pub one : IsAddress address
-  pub given : model.Gives zones limits domain address outcome
-  pub no_verdict : has_verdict outcome ≡ false
-  pub least : (other : Address) → IsAddress other → StandsBefore other address
-      → (verdict : Verdict) × model.Gives zones limits domain other (Is verdict)
-
--- an address has no verdict
-abbrev pub IsRefusedAddress : Limits → List Zone → (domain : List ℕ) → Refusal → Type 0
-IsRefusedAddress limits zones domain why = (address : Address) × (outcome : Outcome)
-    × IsLeastRefused (says zones) limits domain address outcome × (why ≡ NoVerdict address outcome)
-
--- the verdicts of two tries are those of check_host
-abbrev pub KeepVerdicts : Limits → List Zone → (domain : List ℕ) → (v4 v6 : List (Cidr × Verdict)) → Type 0
-KeepVerdicts limits zones domain v4 v6 =
-    AllHave (says zones) limits domain (verdict_at (trie_verdict 32 v4) (trie_verdict 128 v6))
 
 -- What is due for a domain over these zones. Each address has a verdict, or the policy is refused: a list has one for
 -- each.

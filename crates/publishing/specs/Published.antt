@@ -1,8 +1,6 @@
 -- What is due for verdicts that are published at a domain: a refusal, or the fragment of a shortest list in the fewest
 -- records that fit.
 use Rattle.std.specs.Prelude.{ℕ, ◌≡◌, ◌<◌, ◌≤◌, ◌^◌, Bool, false, IsTrue, IsFalse, List, length, Result, Ok, Err}
-use Rattle.addr_bits.specs.declared.address.Address.{Address}
-use Rattle.addr_bits.specs.declared.address.Address.TheVariants.{V4, V6}
 use Rattle.dns_name.specs.Name.{name_of_text}
 use Rattle.dns_name.specs.declared.fault.NameFault.{NameFault}
 use Rattle.zone_answers.specs.Zone.{Zone}
@@ -107,11 +105,6 @@ OnePublication = (settings : ChainSettings) (zones : List Zone) (v4 v6 w4 w6 : �
     → PublicationDue settings zones v4 v6 x → PublicationDue settings zones w4 w6 y → x ≡ y
 
 -- ---- what is best
--- the verdict of an address, by its number in its family
-abbrev pub verdict_at : (v4 v6 : ℕ → Verdict) → Address → Verdict
-verdict_at v4 v6 (V4 a) = v4 a
-verdict_at v4 v6 (V6 a) = v6 a
-
 -- The bytes are the fragment of a list with these verdicts. No list with these verdicts has fewer terms, in any order,
 -- with any mixture of families and any number of `all`, as the table of the fragment shows. The list stands in records
 -- that fit beside the other texts at the domain, no cut of it that fits has fewer records, and their names are free.

@@ -6,7 +6,6 @@ mod names;
 mod policy;
 mod publication;
 mod settings;
-mod verdicts;
 
 pub use laws::{due_is_best, one_publication};
 pub use policy::publish_policy;

@@ -5,10 +5,10 @@ ghost use Rattle.spf_model.specs.Result.{AreModest};
 ghost use Rattle.loading.specs.Memory.{ErrorIs};
 ghost use Rattle.publishing.specs.Policy.{PolicyDue};
 
-use crate::verdicts::kept_verdicts;
 use crate::{ChainSettings, publish};
 use addr_bits::Bytes;
 use loading::{OrMemory, Refusal};
+use policy_verdicts::policy_verdicts;
 use spf_model::Limits;
 use std::alloc::Global;
 use zone_answers::Zones;
@@ -26,6 +26,6 @@ pub fn publish_policy(
     ensures written { IfOk result (λ bytes. PolicyDue settings.now limits zones.now (Ok bytes)) }
     ensures refused { IfErr result (ErrorIs (λ why. PolicyDue settings.now limits zones.now (Err why))) }
 {
-    let tries = kept_verdicts(alloc, zones, settings.domain.text.as_slice(), limits)?;
-    publish(alloc, zones, settings, &tries)
+    let found = policy_verdicts(alloc, zones, limits, settings.domain.text.as_slice())?;
+    publish(alloc, zones, settings, &found.tries)
 }

@@ -69,9 +69,11 @@ module _ (zones : Answering) (limits : Limits) (domain : List ℕ) (name : Label
   evaluated is_name first second in_order same = record {
     v4 = λ a below. given zones limits domain name (V4 a) is_name (value_at 32 four a) (first.each a below);
     v6 = λ a below. given zones limits domain name (V6 a) is_name (value_at 128 six a) (second.each a below);
-    questions = λ question. (
-      λ h. asked_by is_name first second question ((same question).0 h),
-      λ h. (same question).1 (listed is_name first second question h.0 h.1 h.2),
-    );
-    in_order = in_order;
+    questions = record {
+      same = λ question. (
+        λ h. asked_by is_name first second question ((same question).0 h),
+        λ h. (same question).1 (listed is_name first second question h.0 h.1 h.2),
+      );
+      in_order = in_order;
+    };
   }

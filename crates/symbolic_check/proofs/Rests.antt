@@ -29,15 +29,17 @@ gives_there zones others limits domain a address same (Some outcome) gives = (
 pub rests_on_asked : RestsOnAsked
 rests_on_asked zones others limits domain four six asked same evaluation =
     let alike : (question : Question) → IsAsked zones limits domain question → others question ≡ zones question =
-    λ q is_asked. same q ((evaluation.questions q).1 is_asked)
+    λ q is_asked. same q ((evaluation.questions.same q).1 is_asked)
     in record {
       v4 = λ a below. gives_there zones others limits domain (V4 a) below alike (value_at 32 four a) (evaluation.v4 a below);
       v6 = λ a below. gives_there zones others limits domain (V6 a) below alike (value_at 128 six a) (evaluation.v6 a below);
-      questions = λ q. (
-        λ contains. let h = (evaluation.questions q).0 contains in
-            (h.0, h.1, (h.2.0, h.2.1, same_asked zones others (check_host limits h.0 domain h.2.0) q (λ p there. alike p (h.0, h.1, (h.2.0, h.2.1, there))) h.2.2)),
-        λ h. (evaluation.questions q).1
-            (h.0, h.1, (h.2.0, h.2.1, same_asked_back zones others (check_host limits h.0 domain h.2.0) q (λ p there. alike p (h.0, h.1, (h.2.0, h.2.1, there))) h.2.2)),
-      );
-      in_order = evaluation.in_order;
+      questions = record {
+        same = λ q. (
+          λ contains. let h = (evaluation.questions.same q).0 contains in
+              (h.0, h.1, (h.2.0, h.2.1, same_asked zones others (check_host limits h.0 domain h.2.0) q (λ p there. alike p (h.0, h.1, (h.2.0, h.2.1, there))) h.2.2)),
+          λ h. (evaluation.questions.same q).1
+              (h.0, h.1, (h.2.0, h.2.1, same_asked_back zones others (check_host limits h.0 domain h.2.0) q (λ p there. alike p (h.0, h.1, (h.2.0, h.2.1, there))) h.2.2)),
+        );
+        in_order = evaluation.questions.in_order;
+      };
     }

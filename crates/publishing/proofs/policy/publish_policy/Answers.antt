@@ -1,20 +1,14 @@
-use Rattle.std.proofs.Common.{rules}
-use Rattle.loading.proofs.StopLemmas.{error_also, result_also}
+use Rattle.std.proofs.Common.{rules, subst, sym}
+use Rattle.loading.proofs.StopLemmas.{result_also}
 use Rattle.publishing.proofs.PublicationLemmas.{policy_refused, policy_written, policy_stopped}
 use Rattle.publishing.proofs.policy.publish_policy.Goals as goal
 
-pub returns-in_err-tries-clause-refused : goal.returns-in_err-tries-clause-refused
-returns-in_err-tries-clause-refused c =
-    let stops = error_also _ _ (policy_refused c.args.settings.now c.args.limits c.args.zones.now) c.in_err-tries.field-0.0
-    (rw c.as_slice.ensures at c.in_err-tries.ensures.refused) in
-    search (rules, stops)
-
 pub returns-clause-written : goal.returns-clause-written
 returns-clause-written c =
-    policy_written c.args.settings.now c.args.limits c.args.zones.now c.in_ok-tries.tries.v4 c.in_ok-tries.tries.v6 c.publish.result
-    (rw c.as_slice.ensures at c.in_ok-tries.ensures.kept) c.publish.ensures.written
+    policy_written c.args.settings.now c.args.limits c.args.zones.now c.in_ok-found.found.tries.v4 c.in_ok-found.found.tries.v6 c.publish.result
+    (rw c.as_slice.ensures at c.in_ok-found.ensures.kept) c.publish.ensures.written
 
 pub returns-clause-refused : goal.returns-clause-refused
 returns-clause-refused c =
-    result_also _ _ (policy_stopped c.args.settings.now c.args.limits c.args.zones.now c.in_ok-tries.tries.v4 c.in_ok-tries.tries.v6
-    (rw c.as_slice.ensures at c.in_ok-tries.ensures.kept)) c.publish.result c.publish.ensures.refused
+    result_also _ _ (policy_stopped c.args.settings.now c.args.limits c.args.zones.now c.in_ok-found.found.tries.v4 c.in_ok-found.found.tries.v6
+    (rw c.as_slice.ensures at c.in_ok-found.ensures.kept)) c.publish.result c.publish.ensures.refused

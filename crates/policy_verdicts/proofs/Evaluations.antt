@@ -1,5 +1,5 @@
 -- From an evaluation of every address to its verdicts, or to the least address that is refused.
-use Rattle.std.proofs.Common.{◌≡◌, ◌<◌, ◌^◌, ℕ, true, List, Option, Some, None, IsSomeAnd, refl, sym, subst, true≢false}
+use Rattle.std.proofs.Common.{◌≡◌, ◌<◌, ◌^◌, ℕ, true, List, Option, Some, None, IsSomeAnd, sym, subst, true≢false}
 use Rattle.addr_bits.specs.Prefix.{Cidr}
 use Rattle.addr_bits.specs.Address.{IsAddress}
 use Rattle.addr_bits.specs.declared.address.Address.{Address}
@@ -18,10 +18,8 @@ use Rattle.symbolic_check.specs.Evaluation.{IsEvaluation}
 use Rattle.verdict_map.specs.declared.fault.VerdictFault.{VerdictFault}
 use Rattle.verdict_map.specs.Verdicts.{has_verdict, IsVerdictOf, HasVerdict, HaveVerdicts, IsRefused, IsFault}
 use Rattle.fewest_terms.specs.Leaves.{or_neutral, verdict_at as trie_verdict}
-use Rattle.verdict_map.specs.declared.fault.VerdictFault.TheVariants.{Refused}
-use Rattle.loading.specs.declared.refusal.Refusal.TheVariants.{NoVerdict}
-use Rattle.publishing.specs.Policy.{StandsBefore, IsLeastRefused, IsRefusedAddress}
-use Rattle.publishing.specs.Published.{verdict_at}
+use Rattle.verdict_map.specs.declared.fault.VerdictFault.TheVariants.{Refused, Memory}
+use Rattle.policy_verdicts.specs.Policy.{StandsBefore, IsLeastRefused, IsPolicyFault, verdict_at}
 
 -- ---- what stands at one address
 here : {A : Type 0} (found : Option A) (a : A) (P : A → Type 0) → found ≡ Some a → IsSomeAnd found P → P a
@@ -76,8 +74,8 @@ refused_of zones limits domain four six asked (V6 a) outcome is (all, r) = recor
   least = before_six zones limits domain four six asked a is all r.least;
 }
 
--- an address without a verdict is the refusal of the policy
-pub refused_address : (zones : List Zone) (limits : Limits) (domain : List ℕ) (four six : List (Cidr × Outcome)) (asked : List Question) (address : Address) (outcome : Outcome)
-    → IsEvaluation (says zones) limits domain four six asked → IsFault four six (Refused address outcome) → IsRefusedAddress limits zones domain (NoVerdict address outcome)
-refused_address zones limits domain four six asked address outcome is why =
-    (address, outcome, refused_of (says zones) limits domain four six asked address outcome is why, refl)
+-- a fault of the outcomes is one of the policy
+pub fault_of : (zones : List Zone) (limits : Limits) (domain : List ℕ) (four six : List (Cidr × Outcome)) (asked : List Question) (fault : VerdictFault)
+    → IsEvaluation (says zones) limits domain four six asked → IsFault four six fault → IsPolicyFault limits zones domain fault
+fault_of zones limits domain four six asked (Refused address outcome) is why = refused_of (says zones) limits domain four six asked address outcome is why
+fault_of zones limits domain four six asked Memory is why = tt
