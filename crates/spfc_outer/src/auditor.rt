@@ -18,11 +18,11 @@ pub enum Keep {
 pub trait Auditor: Drop {
     /// What is seen from outside: when it says that it is done, how many questions it took, and those that it heard,
     /// where it tells them.
-    ghost seen: { Self → AuditorSeen };
+    ghost hears: { Self → AuditorSeen };
 
     /// Tells it a question. `Done` comes exactly where its count comes to the stop that it tells, if it tells one. After
     /// `AllocError` all that is seen is as it was.
     fn tell(&mut self, question: &Question) -> Result<Keep, AllocError>
-        ensures heard { IfOk result (HasHeard (seen self.old) question.now (seen self.new)) }
-        ensures unheard { OnErr result (seen self.new ≡ seen self.old) };
+        ensures heard { IfOk result (HasHeard (hears self.old) question.now (hears self.new)) }
+        ensures unheard { OnErr result (hears self.new ≡ hears self.old) };
 }

@@ -45,7 +45,7 @@ impl KeepAuditor {
 impl Auditor for KeepAuditor {
     ghost use Rattle.spfc_outer.specs.KeepAuditor.{keep_seen};
 
-    ghost seen = { keep_seen };
+    ghost hears = { keep_seen };
 
     fn tell(&mut self, question: &Question) -> Result<Keep, AllocError> {
         let name = question.name.clone()?;

@@ -38,7 +38,7 @@ impl<S: Sink + Drop> Auditor for LineAuditor<S> {
     ghost use Rattle.spfc_outer.specs.LineAuditor.{line_seen, line_sink};
     ghost use Rattle.spfc_outer.specs.Moved.{AppendsPart};
 
-    ghost seen = { line_seen };
+    ghost hears = { line_seen };
 
     fn tell(&mut self, question: &Question) -> Result<Keep, AllocError>
         ensures heard { IfOk result (HasHeard (line_seen self.old) question.now (line_seen self.new)) }

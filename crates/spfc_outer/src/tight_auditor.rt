@@ -33,7 +33,7 @@ impl Auditor for TightAuditor {
     ghost use Rattle.spfc_outer.specs.Auditors.{HasHeard};
     ghost use Rattle.spfc_outer.specs.KeepAuditor.{refused_at, tight_seen};
 
-    ghost seen = { tight_seen };
+    ghost hears = { tight_seen };
 
     fn tell(&mut self, question: &Question) -> Result<Keep, AllocError>
         ensures heard { IfOk result (HasHeard (tight_seen self.old) question.now (tight_seen self.new)) }
