@@ -2,8 +2,8 @@
 use Rattle.std.specs.Prelude.{◌≡◌, ℕ, List, [], ◌∷◌}
 use Rattle.std.proofs.Common.{sym, ap, subst, ◌∙◌}
 use Rattle.spf_model.specs.Run.{says}
-use Rattle.symbolic_check.proofs.OneAsked.{one_asked}
 use Rattle.symbolic_check.proofs.Rests.{rests_on_asked}
+use Rattle.policy_verdicts.proofs.OrderedQuestions.{one_list_asked}
 use Rattle.spfc_words.specs.Limits.{reading_options}
 use Rattle.spfc_words.specs.Options.{behind_options}
 use Rattle.spfc_words.specs.declared.input.Group.TheVariants.{Zones}
@@ -34,8 +34,8 @@ one_deps (domain ∷ words) a b x y =
 one_output : (job : Deps) (loaded : Loaded) (a b : Output) → AreDeps job loaded a → AreDeps job loaded b → a ≡ b
 one_output job loaded a b x y =
     let same : x.lines.asked ≡ y.lines.asked =
-    one_asked (says loaded.zones) job.limits job.domain.text x.lines.v4 x.lines.v6 x.lines.asked
-    y.lines.v4 y.lines.v6 y.lines.asked x.lines.evaluation y.lines.evaluation in
+    one_list_asked (says loaded.zones) job.limits job.domain.text x.lines.asked y.lines.asked
+    x.lines.evaluation.questions y.lines.evaluation.questions in
     let bytes : a.bytes ≡ b.bytes = x.lines.lines ∙ (ap question_lines same ∙ sym y.lines.lines) in
     let asked : a.asked ≡ b.asked = x.untold ∙ sym y.untold in
     λ i. record { bytes = bytes i; asked = asked i }

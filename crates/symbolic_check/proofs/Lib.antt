@@ -8,7 +8,6 @@ pub mod Gathering
 pub mod Keying
 pub mod Matching
 pub mod Records
-pub mod OneAsked
 pub mod Rests
 pub mod Rows
 pub mod Settling

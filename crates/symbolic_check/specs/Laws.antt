@@ -1,4 +1,4 @@
--- The laws of evaluations, as statements.
+-- The law of an evaluation, as a statement.
 use Rattle.std.specs.Prelude.{◌≡◌, ℕ, List, Contains}
 use Rattle.addr_bits.specs.Prefix.{Cidr}
 use Rattle.zone_answers.specs.declared.answer.Question.{Question}
@@ -13,10 +13,3 @@ RestsOnAsked = (zones others : Answering) (limits : Limits) (domain : List ℕ) 
     (asked : List Question)
     → ((question : Question) → Contains asked question → others question ≡ zones question)
     → IsEvaluation zones limits domain four six asked → IsEvaluation others limits domain four six asked
-
--- the questions of two evaluations over the same zones are one list
-abbrev pub OneAsked : Type 0
-OneAsked = (zones : Answering) (limits : Limits) (domain : List ℕ) (four six : List (Cidr × Outcome))
-    (asked : List Question) (fours sixes : List (Cidr × Outcome)) (again : List Question)
-    → IsEvaluation zones limits domain four six asked → IsEvaluation zones limits domain fours sixes again
-    → asked ≡ again

@@ -13,4 +13,4 @@ mod steps;
 mod walk;
 
 pub use both::{Both, evaluate};
-pub use laws::{one_asked, rests_on_asked};
+pub use laws::rests_on_asked;
