@@ -1,6 +1,9 @@
 -- What the job means.
-use Rattle.std.specs.Prelude.{◌≡◌, ℕ, List, [], Result, Ok, Err}
+use Rattle.std.specs.Prelude.{◌≡◌, ℕ, Bool, true, false, List, [], Ok, Err}
+use Rattle.zone_answers.specs.declared.answer.Question.{Question}
 use Rattle.spf_model.specs.Result.{AreModest}
+use Rattle.spf_model.specs.Run.{says}
+use Rattle.symbolic_check.specs.Evaluation.{AreAsked}
 use Rattle.loading.specs.declared.loaded.Loaded.{Loaded}
 use Rattle.loading.specs.declared.refusal.Refusal.{Refusal}
 use Rattle.jobs.specs.Meaning.{Due, Refuses, Gives, Meaning}
@@ -14,20 +17,25 @@ pub record IsReady (job : Compile) : Type 0 where
   pub legal : AreLegal job.settings
   pub modest : AreModest job.limits
 
--- what is due of the job, where this is due of the policy; no question is told of
-abbrev pub due_of : Result (List ℕ) Refusal → Due
-due_of (Ok bytes) = Gives (record { bytes = bytes; asked = [] })
-due_of (Err why) = Refuses why
+-- with `--trace` the questions that are told are those that check_host asks for some address; without it none is told
+abbrev pub AreTraced : (trace : Bool) → Compile → Loaded → List Question → Type 0
+AreTraced true job loaded asked = AreAsked (says loaded.zones) job.limits job.settings.domain.text asked
+AreTraced false job loaded asked = asked ≡ []
+
+-- the output is the fragment that is due for the policy, and what is told
+pub record IsOutput (job : Compile) (loaded : Loaded) (output : Output) : Type 0 where
+  pub written : PolicyDue job.settings job.limits loaded.zones (Ok output.bytes)
+  pub traced : AreTraced job.trace job loaded output.asked
 
 -- what is due for the policy is due
 abbrev pub CompileDue : Compile → Loaded → Due → Type 0
-CompileDue job loaded due = (found : Result (List ℕ) Refusal)
-    × PolicyDue job.settings job.limits loaded.zones found × (due ≡ due_of found)
+CompileDue job loaded (Gives output) = IsOutput job loaded output
+CompileDue job loaded (Refuses why) = PolicyDue job.settings job.limits loaded.zones (Err why)
 
--- the output is a shortest fragment; no question is told of
+-- the output is a shortest fragment, and what is told
 pub record IsBest (job : Compile) (loaded : Loaded) (output : Output) : Type 0 where
   pub shortest : IsShortest job.settings job.limits loaded.zones output.bytes
-  pub untold : output.asked ≡ []
+  pub traced : AreTraced job.trace job loaded output.asked
 
 -- what the job means
 abbrev pub meaning_of_compile : Compile → Meaning

@@ -6,16 +6,19 @@ ghost use Rattle.job_compile.specs.Words.{SpellsCompile};
 
 use jobs::{Job, Output};
 use loading::{Loaded, OrMemory, Refusal};
-use publishing::{ChainSettings, LABEL, TTL, publish_policy, read_settings};
+use publishing::{ChainSettings, LABEL, Publication, TTL, publish_policy, read_settings};
 use spf_model::Limits;
 use spfc_words::{
-    EXCHANGES, Group, Input, Inputs, LOOKUPS, Row, SIZE, VOIDS, behind_options, push_zone_words,
-    read_limits, split_first,
+    EXCHANGES, FlagRow, Group, Input, Inputs, LOOKUPS, Row, SIZE, VOIDS, behind_options,
+    push_zone_words, read_flag, read_limits, split_first,
 };
 use std::alloc::{AllocError, Global};
 use zone_answers::Questions;
 
-/// The options of the job: those of the reading limits, and of a chain of records.
+/// `--trace`: the questions are told to listeners.
+const TRACE: FlagRow = FlagRow { name: "--trace" };
+
+/// The options of the job: those of the reading limits, of a chain of records, and whether questions are told.
 const OPTIONS: &[Row] = &[
     Row::Number(LOOKUPS),
     Row::Number(VOIDS),
@@ -23,6 +26,7 @@ const OPTIONS: &[Row] = &[
     Row::Number(SIZE),
     Row::Number(TTL),
     Row::Text(LABEL),
+    Row::Flag(TRACE),
 ];
 
 /// The policy of a domain as the fewest terms in the fewest records.
@@ -32,6 +36,8 @@ pub struct Compile {
     pub settings: ChainSettings,
     /// The limits under which the zones are read.
     pub limits: Limits,
+    /// Whether the questions are told to listeners.
+    pub trace: bool,
     /// The zones.
     pub inputs: Inputs,
 }
@@ -64,7 +70,8 @@ impl Job for Compile {
 
     fn perform(&self, alloc: Global, loaded: &Loaded) -> Result<Output, OrMemory<Refusal>> {
         match publish_policy(alloc, &loaded.zones, &self.settings, self.limits) {
-            Ok(bytes) => Ok(Output {
+            Ok(Publication { bytes, asked }) if self.trace => Ok(Output { bytes, asked }),
+            Ok(Publication { bytes, .. }) => Ok(Output {
                 bytes,
                 asked: Questions::new(alloc),
             }),
@@ -73,7 +80,8 @@ impl Job for Compile {
     }
 }
 
-/// The job of a domain and the words behind it: options of the reading limits and of a chain, and zone words.
+/// The job of a domain and the words behind it: options of the reading limits and of a chain, perhaps `--trace`, and
+/// zone words.
 fn read_behind(alloc: Global, domain: &str, rest: &[String]) -> Result<Option<Compile>, AllocError>
     ensures { Reads SpellsCompile (domain.now ∷ texts rest.now) result }
 {
@@ -81,6 +89,9 @@ fn read_behind(alloc: Global, domain: &str, rest: &[String]) -> Result<Option<Co
         return Ok(None);
     };
     let Some(limits) = read_limits(OPTIONS, rest) else {
+        return Ok(None);
+    };
+    let Some(trace) = read_flag(OPTIONS, rest, &TRACE) else {
         return Ok(None);
     };
     let mut inputs = Inputs::new(alloc);
@@ -95,6 +106,7 @@ fn read_behind(alloc: Global, domain: &str, rest: &[String]) -> Result<Option<Co
     Ok(Some(Compile {
         settings,
         limits,
+        trace,
         inputs,
     }))
 }

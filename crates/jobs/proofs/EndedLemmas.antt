@@ -12,7 +12,7 @@ use Rattle.loading.proofs.OneLoading.{one_loading}
 use Rattle.jobs.specs.Meaning.{Due, Refuses, Gives, Meaning, Program, AreLawful, IsLawful}
 use Rattle.jobs.specs.Given.{Given, IsGiven, JobDue, Behind, IsReadFault, tells, LineDue, finding, usage, fault}
 use Rattle.jobs.specs.Given.{Writes, Says, spoken, WordsDue, no_job, job, OneIsDue}
-use Rattle.jobs.specs.Turn.{Turn, given_of, Gains, Ended, done, told, unwritten, untold, no_memory}
+use Rattle.jobs.specs.Turn.{Turn, given_of, Gains, Ended, done, told, unwritten, untold, no_memory, unheard}
 use Rattle.jobs.specs.Turn.{HasDone, HasBest, HasFound, HasUsage, HasReadFault, HasWriteFault, HasNone, IsFindingStatus}
 use Rattle.jobs.specs.Turn.{IsComplete, IsAssured}
 
@@ -76,69 +76,77 @@ line_status (fault file is a b) =
 
 -- ---- each clause
 pub range_of : {p : Program} {t : Turn} {status : ℕ} → Ended p t status → status ≤ 8
-range_of (done output is a b c d) = omega arith
-range_of (told line is a b) = (line_status is).most
-range_of (unwritten output is a b c) = omega arith
-range_of (untold due line is a b c) = omega arith
-range_of (no_memory is a b) = omega arith
+range_of (done output is a b c d told_of) = omega arith
+range_of (told line is a b same) = (line_status is).most
+range_of (unwritten output is a b c told_of) = omega arith
+range_of (untold due line is a b c same) = omega arith
+range_of (no_memory is a b same) = omega arith
+range_of (unheard output is is_given a b c) = omega arith
 
 pub done_of : {p : Program} {t : Turn} {status : ℕ} → Ended p t status → status ≡ 0 → HasDone p t
-done_of (done output is a b c d) zero_is = (output, a, c, d)
-done_of (told line is a b) zero_is = let s = (line_status is).some in absurd (omega (arith, s))
-done_of (unwritten output is a b c) zero_is = absurd (omega arith)
-done_of (untold due line is a b c) zero_is = absurd (omega arith)
-done_of (no_memory is a b) zero_is = absurd (omega arith)
+done_of (done output is a b c d told_of) zero_is = (output, a, c, d, told_of)
+done_of (told line is a b same) zero_is = let s = (line_status is).some in absurd (omega (arith, s))
+done_of (unwritten output is a b c told_of) zero_is = absurd (omega arith)
+done_of (untold due line is a b c same) zero_is = absurd (omega arith)
+done_of (no_memory is a b same) zero_is = absurd (omega arith)
+done_of (unheard output is is_given a b c) zero_is = absurd (omega arith)
 
 pub best_of : {p : Program} {t : Turn} {status : ℕ} → Ended p t status → status ≡ 0 → HasBest p t
-best_of (done output is a b c d) zero_is = (output, a, b, c)
-best_of (told line is a b) zero_is = let s = (line_status is).some in absurd (omega (arith, s))
-best_of (unwritten output is a b c) zero_is = absurd (omega arith)
-best_of (untold due line is a b c) zero_is = absurd (omega arith)
-best_of (no_memory is a b) zero_is = absurd (omega arith)
+best_of (done output is a b c d told_of) zero_is = (output, a, b, c)
+best_of (told line is a b same) zero_is = let s = (line_status is).some in absurd (omega (arith, s))
+best_of (unwritten output is a b c told_of) zero_is = absurd (omega arith)
+best_of (untold due line is a b c same) zero_is = absurd (omega arith)
+best_of (no_memory is a b same) zero_is = absurd (omega arith)
+best_of (unheard output is is_given a b c) zero_is = absurd (omega arith)
 
 pub finding_of : {p : Program} {t : Turn} {status : ℕ} → Ended p t status → IsFindingStatus status
     → HasFound p t status
-finding_of (done output is a b c d) found = let s = (finding_apart found).some in absurd (omega (arith, s))
-finding_of {t = t} (told line (finding why is a b) c d) found = (why, is, a, subst (λ l. Gains t.err l) b c, d)
-finding_of (told line (usage is a b) c d) found = absurd (not_found 4 found a (omega arith) (omega arith))
-finding_of (told line (fault file is a b) c d) found = absurd (not_found 5 found a (omega arith) (omega arith))
-finding_of (unwritten output is a b c) found = absurd (not_found 6 found is (omega arith) (omega arith))
-finding_of (untold due line is a b c) found = absurd (not_found 6 found is (omega arith) (omega arith))
-finding_of (no_memory is a b) found = absurd (not_found 7 found is (omega arith) (omega arith))
+finding_of (done output is a b c d told_of) found = let s = (finding_apart found).some in absurd (omega (arith, s))
+finding_of {t = t} (told line (finding why is a b) c d same) found = (why, is, a, subst (λ l. Gains t.err l) b c, d, same)
+finding_of (told line (usage is a b) c d same) found = absurd (not_found 4 found a (omega arith) (omega arith))
+finding_of (told line (fault file is a b) c d same) found = absurd (not_found 5 found a (omega arith) (omega arith))
+finding_of (unwritten output is a b c told_of) found = absurd (not_found 6 found is (omega arith) (omega arith))
+finding_of (untold due line is a b c same) found = absurd (not_found 6 found is (omega arith) (omega arith))
+finding_of (no_memory is a b same) found = absurd (not_found 7 found is (omega arith) (omega arith))
+finding_of (unheard output is is_given a b c) found = absurd (not_found 7 found is (omega arith) (omega arith))
 
 pub usage_of : {p : Program} {t : Turn} {status : ℕ} → Ended p t status → status ≡ 4 → HasUsage p t
-usage_of (done output is a b c d) four = absurd (omega arith)
-usage_of (told line (finding why is a b) c d) four =
+usage_of (done output is a b c d told_of) four = absurd (omega arith)
+usage_of (told line (finding why is a b) c d same) four =
     absurd (not_found 4 (why_status why a) four (omega arith) (omega arith))
-usage_of {t = t} (told line (usage is a b) c d) four = (is, subst (λ l. Gains t.err l) b c, d)
-usage_of (told line (fault file is a b) c d) four = absurd (omega arith)
-usage_of (unwritten output is a b c) four = absurd (omega arith)
-usage_of (untold due line is a b c) four = absurd (omega arith)
-usage_of (no_memory is a b) four = absurd (omega arith)
+usage_of {t = t} (told line (usage is a b) c d same) four = (is, subst (λ l. Gains t.err l) b c, d, same)
+usage_of (told line (fault file is a b) c d same) four = absurd (omega arith)
+usage_of (unwritten output is a b c told_of) four = absurd (omega arith)
+usage_of (untold due line is a b c same) four = absurd (omega arith)
+usage_of (no_memory is a b same) four = absurd (omega arith)
+usage_of (unheard output is is_given a b c) four = absurd (omega arith)
 
 pub read_fault_of : {p : Program} {t : Turn} {status : ℕ} → Ended p t status → status ≡ 5 → HasReadFault p t
-read_fault_of (done output is a b c d) five = absurd (omega arith)
-read_fault_of (told line (finding why is a b) c d) five =
+read_fault_of (done output is a b c d told_of) five = absurd (omega arith)
+read_fault_of (told line (finding why is a b) c d same) five =
     absurd (not_found 5 (why_status why a) five (omega arith) (omega arith))
-read_fault_of (told line (usage is a b) c d) five = absurd (omega arith)
-read_fault_of {t = t} (told line (fault file is a b) c d) five = (file, is, subst (λ l. Gains t.err l) b c, d)
-read_fault_of (unwritten output is a b c) five = absurd (omega arith)
-read_fault_of (untold due line is a b c) five = absurd (omega arith)
-read_fault_of (no_memory is a b) five = absurd (omega arith)
+read_fault_of (told line (usage is a b) c d same) five = absurd (omega arith)
+read_fault_of {t = t} (told line (fault file is a b) c d same) five = (file, is, subst (λ l. Gains t.err l) b c, d, same)
+read_fault_of (unwritten output is a b c told_of) five = absurd (omega arith)
+read_fault_of (untold due line is a b c same) five = absurd (omega arith)
+read_fault_of (no_memory is a b same) five = absurd (omega arith)
+read_fault_of (unheard output is is_given a b c) five = absurd (omega arith)
 
 pub write_fault_of : {p : Program} {t : Turn} {status : ℕ} → Ended p t status → status ≡ 6 → HasWriteFault p t
-write_fault_of (done output is a b c d) six = absurd (omega arith)
-write_fault_of (told line is a b) six = absurd ((line_status is).no_six six)
-write_fault_of (unwritten output is a b c) six = inl (output, a, b, c)
-write_fault_of (untold due line is a b c) six = inr (due, line, a, b, c)
-write_fault_of (no_memory is a b) six = absurd (omega arith)
+write_fault_of (done output is a b c d told_of) six = absurd (omega arith)
+write_fault_of (told line is a b same) six = absurd ((line_status is).no_six six)
+write_fault_of (unwritten output is a b c told_of) six = inl (output, a, b, c, told_of)
+write_fault_of (untold due line is a b c same) six = inr (due, line, a, b, c, same)
+write_fault_of (no_memory is a b same) six = absurd (omega arith)
+write_fault_of (unheard output is is_given a b c) six = absurd (omega arith)
 
-pub memory_of : {p : Program} {t : Turn} {status : ℕ} → Ended p t status → status ≡ 7 → HasNone t
-memory_of (done output is a b c d) seven = absurd (omega arith)
-memory_of (told line is a b) seven = absurd ((line_status is).no_seven seven)
-memory_of (unwritten output is a b c) seven = absurd (omega arith)
-memory_of (untold due line is a b c) seven = absurd (omega arith)
-memory_of (no_memory is a b) seven = (a, b)
+pub memory_of : {p : Program} {t : Turn} {status : ℕ} → Ended p t status → status ≡ 7 → HasNone p t
+memory_of (done output is a b c d told_of) seven = absurd (omega arith)
+memory_of (told line is a b same) seven = absurd ((line_status is).no_seven seven)
+memory_of (unwritten output is a b c told_of) seven = absurd (omega arith)
+memory_of (untold due line is a b c same) seven = absurd (omega arith)
+memory_of (no_memory is a b same) seven = (a, b, inl same)
+memory_of (unheard output is is_given a b c) seven = (b, c, inr (output, is_given, a))
 
 -- ---- what is due, where the files tell
 told_tells : (files : FilesSeen) (m : Meaning) → IsTrue files.told → IsTrue (tells files m)
@@ -156,33 +164,35 @@ line_due p g after status line tell (usage is a b) = inl (rw (a, b) (no_job is r
 line_due p g after status line tell (fault file is a b) = inr (file, is)
 
 pub complete_of : {p : Program} {t : Turn} {status : ℕ} → Ended p t status → IsComplete p t status
-complete_of {p = p} {t = t} (done output is a b c d) tell calm =
+complete_of {p = p} {t = t} (done output is a b c d told_of) tell calm =
     inl (Writes output, given_due p (given_of t) (Gives output) tell a, is)
-complete_of {p = p} {t = t} {status = status} (told line is a b) tell calm =
+complete_of {p = p} {t = t} {status = status} (told line is a b same) tell calm =
     elim (line_due p (given_of t) t.files.after status line tell is) [
       | inl due ↦ inl (Says status line, due, refl)
       | inr bad ↦ absurd (calm.files (bad.1.fault).fails.rose)
     ]
-complete_of (unwritten output is a b c) tell calm = absurd (calm.out b.rose)
-complete_of (untold due line is a b c) tell calm = absurd (calm.err b.rose)
-complete_of (no_memory is a b) tell calm = inr is
+complete_of (unwritten output is a b c told_of) tell calm = absurd (calm.out b.rose)
+complete_of (untold due line is a b c same) tell calm = absurd (calm.err b.rose)
+complete_of (no_memory is a b same) tell calm = inr is
+complete_of (unheard output is is_given a b c) tell calm = inr is
 
 pub assured_of : {p : Program} {t : Turn} {status : ℕ} → Ended p t status → IsAssured p t status
-assured_of {p = p} {t = t} (done output is a b c d) tell sure =
+assured_of {p = p} {t = t} (done output is a b c d told_of) tell sure =
     inl (Writes output, given_due p (given_of t) (Gives output) tell a, is)
-assured_of {p = p} {t = t} {status = status} (told line is a b) tell sure =
+assured_of {p = p} {t = t} {status = status} (told line is a b same) tell sure =
     elim (line_due p (given_of t) t.files.after status line tell is) [
       | inl due ↦ inl (Says status line, due, refl)
       | inr bad ↦ absurd ((bad.1.fault).fails.unsure sure.files)
     ]
-assured_of {p = p} {t = t} (unwritten output is a b c) tell sure =
+assured_of {p = p} {t = t} (unwritten output is a b c told_of) tell sure =
     absurd (omega (arith, sure.room (Writes output) (given_due p (given_of t) (Gives output) tell a), b.short))
-assured_of {p = p} {t = t} (untold due line is a b c) tell sure =
+assured_of {p = p} {t = t} (untold due line is a b c same) tell sure =
     elim (line_due p (given_of t) t.files.after due line tell a) [
       | inl owed ↦ absurd (omega (arith, sure.room (Says due line) owed, b.short))
       | inr bad ↦ absurd ((bad.1.fault).fails.unsure sure.files)
     ]
-assured_of (no_memory is a b) tell sure = inr is
+assured_of (no_memory is a b same) tell sure = inr is
+assured_of (unheard output is is_given a b c) tell sure = inr is
 
 -- ---- one thing is due
 one_behind : (m : Meaning) → IsLawful m → (x y : Result Loaded Refusal) (a b : Due) → x ≡ y → Behind x m.IsDue a

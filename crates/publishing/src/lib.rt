@@ -8,6 +8,6 @@ mod publication;
 mod settings;
 
 pub use laws::{due_is_best, one_publication};
-pub use policy::publish_policy;
+pub use policy::{Publication, publish_policy};
 pub use publication::publish;
 pub use settings::{ChainSettings, LABEL, TTL, read_settings};

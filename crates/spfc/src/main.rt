@@ -1,7 +1,7 @@
 //! Compiles the SPF policies of DNS master files. The job is given by the words of the command line.
 #![tactic(auto)]
 
-use spfc_outer::{HostFiles, HostSink};
+use spfc_outer::{Auditor, HostFiles, HostSink, LineAuditor};
 use spfc_top::run;
 use std::alloc::{AllocError, Global};
 use std::process::ExitCode;
@@ -21,17 +21,28 @@ fn main(rt: HostRuntime) -> ExitCode {
 fn status(rt: HostRuntime) -> u8 {
     match env::args(&rt) {
         Ok(args) => match words_of(rt.alloc(), args) {
-            Ok(words) => {
-                let mut files = HostFiles::new(rt);
-                let mut out = HostSink::output(rt);
-                let mut err = HostSink::error(rt);
-                run(rt.alloc(), &words, &mut files, &mut out, &mut err)
-            }
+            Ok(words) => run_words(rt, &words),
             Err(AllocError) => NO_MEMORY,
         },
         Err(error) if error.kind() == io::ErrorKind::OutOfMemory => NO_MEMORY,
         Err(_) => NO_WORDS,
     }
+}
+
+// The status of the top call, to which one listener is handed, which writes to standard error.
+fn run_words(rt: HostRuntime, words: &[String]) -> u8 {
+    let alloc = rt.alloc();
+    let mut auditors: Vec<Box<dyn Auditor>> = Vec::new(alloc);
+    let Ok(auditor) = Box::new(alloc, LineAuditor::new(HostSink::error(rt))) else {
+        return NO_MEMORY;
+    };
+    if auditors.push(auditor).is_err() {
+        return NO_MEMORY;
+    }
+    let mut files = HostFiles::new(rt);
+    let mut out = HostSink::output(rt);
+    let mut err = HostSink::error(rt);
+    run(alloc, words, &mut files, &mut out, &mut err, &mut auditors)
 }
 
 // The arguments after the program's name.

@@ -11,6 +11,8 @@ fn words_are_read(rt: HostRuntime) -> Result<(), Fail> {
     assert!(rt; matches!(read_words(rt.alloc(), &words)?, Some(AnyJob::Check(_))));
     let words = words_of(rt.alloc(), "compile example.com example.com=z")?;
     assert!(rt; matches!(read_words(rt.alloc(), &words)?, Some(AnyJob::Compile(_))));
+    let words = words_of(rt.alloc(), "deps example.com example.com=z")?;
+    assert!(rt; matches!(read_words(rt.alloc(), &words)?, Some(AnyJob::Deps(_))));
     let words = words_of(rt.alloc(), "compile example.com")?;
     assert!(rt; read_words(rt.alloc(), &words)?.is_none());
     Ok(())

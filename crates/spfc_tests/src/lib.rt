@@ -6,6 +6,8 @@ mod command_line;
 #[cfg(test)]
 mod files;
 #[cfg(test)]
+mod listeners;
+#[cfg(test)]
 mod outside;
 #[cfg(test)]
 mod questions;

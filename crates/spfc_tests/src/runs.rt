@@ -2,7 +2,7 @@
 
 use crate::rows::{COMPILE, File, ROWS, TWO_HALVES, Want};
 use addr_bits::Bytes;
-use spfc_outer::{Calls, FileList, MemFiles, MemSink};
+use spfc_outer::{Auditor, Calls, FileList, MemFiles, MemSink};
 use spfc_top::run;
 use std::alloc::{AllocError, Global};
 use std::test::Fail;
@@ -30,13 +30,13 @@ pub(crate) fn bytes(alloc: Global, text: &str) -> Result<Bytes, AllocError> {
     Ok(bytes)
 }
 
-fn calls(alloc: Global, numbers: &[u64]) -> Result<Calls, AllocError> {
+pub(crate) fn calls(alloc: Global, numbers: &[u64]) -> Result<Calls, AllocError> {
     let mut calls = Calls::new(alloc);
     calls.extend_from_slice(numbers)?;
     Ok(calls)
 }
 
-fn file_list(alloc: Global, files: &[File<'_>]) -> Result<FileList, AllocError> {
+pub(crate) fn file_list(alloc: Global, files: &[File<'_>]) -> Result<FileList, AllocError> {
     let mut list = FileList::new(alloc);
     for (name, contents) in files {
         list.push((bytes(alloc, name)?, bytes(alloc, contents)?))?;
@@ -53,19 +53,20 @@ pub(crate) fn words_of(alloc: Global, text: &str) -> Result<Vec<String>, AllocEr
     Ok(words)
 }
 
-/// Runs the words over the files. A write takes at most 10 bytes.
+/// Runs the words over the files, without a listener. A write takes at most 10 bytes.
 fn run_over(
     alloc: Global,
     words: &str,
     files: &[File<'_>],
     outside: &Outside<'_>,
 ) -> Result<Left, AllocError> {
+    let mut auditors: Vec<Box<dyn Auditor>> = Vec::new(alloc);
     let words = words_of(alloc, words)?;
     let list = file_list(alloc, files)?;
     let mut files = MemFiles::new(list, outside.most.max(1), calls(alloc, outside.reads)?);
     let mut out = MemSink::new(alloc, 16_384, 10, calls(alloc, outside.writes)?)?;
     let mut err = MemSink::new(alloc, 16_384, 10, calls(alloc, outside.writes)?)?;
-    let status = run(alloc, &words, &mut files, &mut out, &mut err);
+    let status = run(alloc, &words, &mut files, &mut out, &mut err, &mut auditors);
     Ok(Left { status, out, err })
 }
 

@@ -1,8 +1,10 @@
-//! The top call: what the words ask for is computed whole, and then written.
+//! The top call: what the words ask for is computed whole, its questions are told, and then it is written.
 #![tactic(auto)]
 
 mod any_job;
 mod laws;
+mod row;
+mod telling;
 mod top;
 
 pub use any_job::{AnyJob, read_words};

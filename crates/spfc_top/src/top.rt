@@ -1,15 +1,17 @@
 //! The top call.
 ghost use Rattle.std.specs.Prelude.{◌≡◌, ◌≤◌};
-ghost use Rattle.jobs.specs.Turn.{Ended, turn, step, IsFindingStatus, HasDone, HasBest, HasFound, HasUsage};
-ghost use Rattle.jobs.specs.Turn.{HasReadFault, HasWriteFault, HasNone, IsComplete, IsAssured};
+ghost use Rattle.jobs.specs.Turn.{Ended, turn, step, hearing, IsFindingStatus, HasDone, HasBest, HasFound};
+ghost use Rattle.jobs.specs.Turn.{HasUsage, HasReadFault, HasWriteFault, HasNone, IsComplete, IsAssured};
 ghost use Rattle.spfc_top.specs.AnyJob.{jobs};
 
 use crate::AnyJob;
+use crate::telling::tell_all;
 use jobs::{Answer, answer_words};
-use spfc_outer::{Failed, Files, Sink, write_whole};
+use spfc_outer::{Auditor, Failed, Files, Sink, write_whole};
 use std::alloc::{AllocError, Global};
 
-/// Does the job that the words give, and answers the status.
+/// Does the job that the words give, and answers the status. Behind all computing and before the first byte is written,
+/// each listener is told each question of the job's output; one that says that it is done leaves the list and is dropped.
 ///
 /// | Status | What happened | What was written |
 /// |---|---|---|
@@ -18,7 +20,7 @@ use std::alloc::{AllocError, Global};
 /// | 4 | the words give no job | the line `usage`, to `err` |
 /// | 5 | a call of the files failed | the line `read fault FILE`, to `err` |
 /// | 6 | a write failed | a first part of what was due, to `out` or `err` |
-/// | 7 | there was no memory | nothing |
+/// | 7 | there was no memory, perhaps for a listener | nothing |
 /// | 8 | a file is not accepted by `verify` | the line `no ..`, to `err` |
 pub fn run<F: Files, K: Sink, E: Sink>(
     alloc: Global,
@@ -26,12 +28,15 @@ pub fn run<F: Files, K: Sink, E: Sink>(
     files: &mut F,
     out: &mut K,
     err: &mut E,
+    auditors: &mut Vec<Box<dyn Auditor>>,
 ) -> u8
     ensures range { result ≤ 8 }
 
-    // 0: the words give a job, and `out` gained its output.
+    // 0: the words give a job, each listener was told its questions, in order, and left or stayed, and `out` gained its
+    // output. Where the job has no question to tell, as without `--trace`, the listeners are as they were.
     ensures done { result ≡ 0 → HasDone jobs (turn words.now
-        (step F.seen files.old files.new) (step K.seen out.old out.new) (step E.seen err.old err.new)) }
+        (step F.seen files.old files.new) (step K.seen out.old out.new) (step E.seen err.old err.new)
+        (hearing (λ b. hears b) auditors.old auditors.new)) }
 
     // That output is the best that the job can have: of `compile`, a shortest list with the verdicts of check_host, in
     // records that fit, of which no cut that fits has fewer, and whose names are free. The bytes are read as these
@@ -40,54 +45,71 @@ pub fn run<F: Files, K: Sink, E: Sink>(
     // as a chain of records: these fit, and of their list no cut that fits at their names has fewer; over them alone
     // check_host gives each address the verdict that it has over the zones, and no list that does has fewer terms.
     ensures best { result ≡ 0 → HasBest jobs (turn words.now
-        (step F.seen files.old files.new) (step K.seen out.old out.new) (step E.seen err.old err.new)) }
+        (step F.seen files.old files.new) (step K.seen out.old out.new) (step E.seen err.old err.new)
+        (hearing (λ b. hears b) auditors.old auditors.new)) }
 
-    // 1, 2, 3 and 8: the words give a job, it is refused so, and `err` gained the line.
+    // 1, 2, 3 and 8: the words give a job, it is refused so, and `err` gained the line. At these statuses, at 4 and at 5
+    // the listeners are as they were.
     ensures finding { IsFindingStatus result → HasFound jobs (turn words.now
-        (step F.seen files.old files.new) (step K.seen out.old out.new) (step E.seen err.old err.new)) result }
+        (step F.seen files.old files.new) (step K.seen out.old out.new) (step E.seen err.old err.new)
+        (hearing (λ b. hears b) auditors.old auditors.new)) result }
 
     // 4: the words give no job.
     ensures usage { result ≡ 4 → HasUsage jobs (turn words.now
-        (step F.seen files.old files.new) (step K.seen out.old out.new) (step E.seen err.old err.new)) }
+        (step F.seen files.old files.new) (step K.seen out.old out.new) (step E.seen err.old err.new)
+        (hearing (λ b. hears b) auditors.old auditors.new)) }
 
     // 5: the files' count rose, nothing before the file of the last fault is refused, and the line names that file.
     ensures read_fault { result ≡ 5 → HasReadFault jobs (turn words.now
-        (step F.seen files.old files.new) (step K.seen out.old out.new) (step E.seen err.old err.new)) }
+        (step F.seen files.old files.new) (step K.seen out.old out.new) (step E.seen err.old err.new)
+        (hearing (λ b. hears b) auditors.old auditors.new)) }
 
-    // 6: the count of `out` or of `err` rose, that one gained a proper prefix of what was due; the other is untouched.
+    // 6: the count of `out` or of `err` rose, that one gained a proper prefix of what was due; the other is untouched. In
+    // the first case the listeners were told the questions, in the second they are as they were.
     ensures write_fault { result ≡ 6 → HasWriteFault jobs (turn words.now
-        (step F.seen files.old files.new) (step K.seen out.old out.new) (step E.seen err.old err.new)) }
+        (step F.seen files.old files.new) (step K.seen out.old out.new) (step E.seen err.old err.new)
+        (hearing (λ b. hears b) auditors.old auditors.new)) }
 
-    // 7: nothing was written.
-    ensures memory { result ≡ 7 → HasNone (turn words.now
-        (step F.seen files.old files.new) (step K.seen out.old out.new) (step E.seen err.old err.new)) }
+    // 7: nothing was written. The listeners are as they were; or at some question of the job's output the telling broke
+    // off: those in front of some place were told it, and the others the questions before it, and left or stayed.
+    ensures memory { result ≡ 7 → HasNone jobs (turn words.now
+        (step F.seen files.old files.new) (step K.seen out.old out.new) (step E.seen err.old err.new)
+        (hearing (λ b. hears b) auditors.old auditors.new)) }
 
     // Where no count rose, the status is that of what is due, or memory ran out.
     ensures complete { IsComplete jobs (turn words.now
-        (step F.seen files.old files.new) (step K.seen out.old out.new) (step E.seen err.old err.new)) result }
+        (step F.seen files.old files.new) (step K.seen out.old out.new) (step E.seen err.old err.new)
+        (hearing (λ b. hears b) auditors.old auditors.new)) result }
 
     // So too where no call of the files fails, and the sinks have room for all that is due.
     ensures assured { IsAssured jobs (turn words.now
-        (step F.seen files.old files.new) (step K.seen out.old out.new) (step E.seen err.old err.new)) result }
+        (step F.seen files.old files.new) (step K.seen out.old out.new) (step E.seen err.old err.new)
+        (hearing (λ b. hears b) auditors.old auditors.new)) result }
 {
-    end(alloc, words, files, out, err)
+    end(alloc, words, files, out, err, auditors)
 }
 
-/// All that the top call promises, as one fact by cases: what is due is computed first, and then written.
+/// All that the top call promises, as one fact by cases: what is due is computed first, then the
+/// listeners are told its questions, and then it is written.
 fn end<F: Files, K: Sink, E: Sink>(
     alloc: Global,
     words: &[String],
     files: &mut F,
     out: &mut K,
     err: &mut E,
+    auditors: &mut Vec<Box<dyn Auditor>>,
 ) -> u8
     ensures { Ended jobs (turn words.now
-        (step F.seen files.old files.new) (step K.seen out.old out.new) (step E.seen err.old err.new)) result }
+        (step F.seen files.old files.new) (step K.seen out.old out.new) (step E.seen err.old err.new)
+        (hearing (λ b. hears b) auditors.old auditors.new)) result }
 {
     match answer_words::<AnyJob, F>(alloc, words, files) {
-        Ok(Answer::Writes(output)) => match write_whole(out, output.bytes.as_slice()) {
-            Ok(()) => 0,
-            Err(Failed) => 6,
+        Ok(Answer::Writes(output)) => match tell_all(auditors, output.asked.as_slice()) {
+            Ok(()) => match write_whole(out, output.bytes.as_slice()) {
+                Ok(()) => 0,
+                Err(Failed) => 6,
+            },
+            Err(AllocError) => 7,
         },
         Ok(Answer::Says { status, line }) => match write_whole(err, line.as_slice()) {
             Ok(()) => status,

@@ -1,26 +1,27 @@
 use Rattle.std.proofs.Common.{refl}
-use Rattle.jobs.specs.Turn.{done, told, unwritten, untold}
+use Rattle.jobs.specs.Turn.{done, told, unwritten, untold, unheard}
 use Rattle.jobs.proofs.EndedLemmas.{room_short}
 use Rattle.spfc_top.proofs.top.end.Goals as goal
 
 pub returns-in-Ok : goal.returns-in-Ok
 returns-in-Ok g c =
-    let answer = rw c.in-Ok-Writes.field-0-is at c.in-Ok-Writes.ensures.answer in
-    done c.in-Ok-Writes.output refl answer.0 answer.1 (rw c.as_slice.ensures at c.in-Ok.ensures.whole) refl
-
-pub returns-in-Ok-Writes : goal.returns-in-Ok-Writes
-returns-in-Ok-Writes g c =
     unwritten c.in-Ok-Writes.output refl (rw c.in-Ok-Writes.field-0-is at c.in-Ok-Writes.ensures.answer).0
     (record {
       rose = c.in-Err-write_whole.ensures.cause.failed;
-      part = rw c.as_slice.ensures at c.in-Err-write_whole.ensures.part;
-      short = room_short _ _ _ c.as_slice.ensures c.in-Err-write_whole.ensures.assured;
-    }) refl
+      part = rw c.as_slice-in-Ok.ensures at c.in-Err-write_whole.ensures.part;
+      short = room_short _ _ _ c.as_slice-in-Ok.ensures c.in-Err-write_whole.ensures.assured;
+    }) refl (rw c.as_slice.ensures at c.in-Ok.ensures.told)
+
+pub returns-in-Ok-Writes : goal.returns-in-Ok-Writes
+returns-in-Ok-Writes g c =
+    unheard c.in-Ok-Writes.output refl (rw c.in-Ok-Writes.field-0-is at c.in-Ok-Writes.ensures.answer).0
+    (rw c.as_slice.ensures at c.in-Err-tell_all.ensures.broke) refl refl
 
 pub returns-in-Ok-write_whole : goal.returns-in-Ok-write_whole
 returns-in-Ok-write_whole g c =
-    told _ (rw c.in-Ok-Says.field-0-is at c.in-Ok-Says.ensures.answer)
-    (rw c.as_slice-in-Ok-Says.ensures at c.in-Ok-write_whole.ensures.whole) refl
+    let answer = rw c.in-Ok-Writes.field-0-is at c.in-Ok-Writes.ensures.answer in
+    done c.in-Ok-Writes.output refl answer.0 answer.1 (rw c.as_slice-in-Ok.ensures at c.in-Ok-write_whole.ensures.whole) refl
+    (rw c.as_slice.ensures at c.in-Ok.ensures.told)
 
 pub returns-in-Ok-Says : goal.returns-in-Ok-Says
 returns-in-Ok-Says g c =
@@ -29,4 +30,9 @@ returns-in-Ok-Says g c =
       rose = c.in-Err-write_whole-2.ensures.cause.failed;
       part = rw c.as_slice-in-Ok-Says.ensures at c.in-Err-write_whole-2.ensures.part;
       short = room_short _ _ _ c.as_slice-in-Ok-Says.ensures c.in-Err-write_whole-2.ensures.assured;
-    }) refl
+    }) refl refl
+
+pub returns-in-Ok-write_whole-2 : goal.returns-in-Ok-write_whole-2
+returns-in-Ok-write_whole-2 g c =
+    told _ (rw c.in-Ok-Says.field-0-is at c.in-Ok-Says.ensures.answer)
+    (rw c.as_slice-in-Ok-Says.ensures at c.in-Ok-write_whole-2.ensures.whole) refl refl
