@@ -24,7 +24,8 @@ IsLabelAnswer name records (Some found) = (label : List ℕ) → IsTrue (is_labe
 
 -- the records are a chain with this label and this list, or none
 abbrev pub IsChainAnswer : Labels → List Record → Option Chain → Type 0
-IsChainAnswer name records None = (label : List ℕ) (lists : List (List FlatTerm)) → ¬ HasChainForm name records label lists
+IsChainAnswer name records None = (label : List ℕ) (lists : List (List FlatTerm))
+    → ¬ HasChainForm name records label lists
 IsChainAnswer name records (Some chain) = (lists : List (List FlatTerm))
     × HasChainForm name records chain.label.now lists × (chain.list ≡ all_terms lists)
 

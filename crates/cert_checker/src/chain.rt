@@ -62,14 +62,15 @@ fn have_owners(records: &[Record], name: &Name, label: &[u8]) -> bool
     true
 }
 
-/// The label that the second record tells; where there is none, any one serves.
+/// What the name of the second record has in front of its number. Where there is no second record, any label serves.
 fn label_of(records: &[Record]) -> Option<&[u8]>
     ensures { (name : List (List ℕ)) → IsLabelAnswer name records.now result }
 {
-    match records.get(1) {
-        Some(second) => second.owner.first_label()?.strip_suffix(b"1".as_slice()),
-        None => Some(NO_LABEL),
-    }
+    let Some(second) = records.get(1) else {
+        return Some(NO_LABEL);
+    };
+    let (_, label) = second.owner.first_label()?.split_last()?;
+    Some(label)
 }
 
 /// The chain that the records are, from the name on; `None` where they are none.
