@@ -1,5 +1,5 @@
 -- The names of the records of a chain, and what is left of them.
-use Rattle.std.proofs.Common.{◌≡◌, ℕ, ◌+◌, ◌-◌, ◌<◌, ◌≤◌, ◌==◌, Bool, true, false, cond, IsTrue, List, [], ◌∷◌, ◌++◌, length, drop, get_or, refl, sym, ap, ◌∙◌, subst, arith, add-one, drop-cons, Option, Some, None, ap₂, true≢false, bytes_eq, take, take-append-drop, ne_eqb, length-append}
+use Rattle.std.proofs.Common.{◌≡◌, ℕ, ◌+◌, ◌-◌, ◌<◌, ◌≤◌, ◌==◌, Bool, true, false, cond, IsTrue, List, [], ◌∷◌, ◌++◌, length, drop, get_or, refl, sym, ap, ◌∙◌, subst, arith, add-one, drop-cons, Option, Some, None, ap₂, true≢false, bytes_eq, take, take-append-drop, ne_eqb}
 use Rattle.std.specs.Prelude.{decimal}
 use Rattle.std.proofs.Math.Seq.{take-append_seam}
 use Rattle.std.proofs.lemmas.Fmt.{decimal_digit}
@@ -17,6 +17,7 @@ use Rattle.std.proofs.lemmas.Slice.Eq.{bytes_eq-Decides}
 use Rattle.zone_answers.specs.Same.{same_name}
 use Rattle.zone_answers.proofs.Nodes.{same_self, same_true}
 use Rattle.published_records.proofs.StandingRecords.{owner_first, owner_later}
+use Rattle.cert_checker.specs.Judging.{front_of}
 use Rattle.cert_checker.specs.Forms.{AreLinked, HasChainForm, HaveOwners, TextFits, TextsFit}
 
 pub next_item : {X : Type 0} (xs : List X) (i : ℕ) (x : X) → i < length xs → x ≡ get_or xs i x → drop i xs ≡ x ∷ drop (i + 1) xs
@@ -93,29 +94,18 @@ label_single name [] few label form own = (refl, tt)
 label_single name (r ∷ []) few label form own = (refl, (own.0, tt))
 label_single name (r ∷ s ∷ records) few label form own = absurd (omega (arith, few))
 
--- a list without its last item
-abbrev front_of : List ℕ → List ℕ
-front_of [] = []
-front_of (x ∷ []) = []
-front_of (x ∷ y ∷ xs) = x ∷ front_of (y ∷ xs)
-
-front_is : (xs : List ℕ) (x : ℕ) → front_of (xs ++ x ∷ []) ≡ xs
+pub front_is : (xs : List ℕ) (x : ℕ) → front_of (xs ++ x ∷ []) ≡ xs
 front_is [] x = refl
 front_is (y ∷ []) x = refl
 front_is (y ∷ z ∷ xs) x = ap (λ l. y ∷ l) (front_is (z ∷ xs) x)
 
-pub label_second : (name : Labels) (records : List Record) (second : Record) (first found : List ℕ) (last : ℕ) → 1 < length records → second ≡ get_or records 1 second
-    → first_label_of second.owner ≡ Some first → first ≡ found ++ last ∷ [] → (label : List ℕ) → IsTrue (is_label label) → HaveOwners name label 0 records
-    → IsTrue (is_label found) × HaveOwners name found 0 records
-label_second name records second first found last many is told cut label form own =
-    let same : label ≡ found =
-    sym (front_is label 49) ∙ ap front_of (some_same (sym (second_label name label records second many is own) ∙ told) ∙ cut) ∙ front_is found last in
+pub label_second : (name : Labels) (records : List Record) (second : Record) (first : List ℕ) → 1 < length records → second ≡ get_or records 1 second
+    → first_label_of second.owner ≡ Some first → (label : List ℕ) → IsTrue (is_label label) → HaveOwners name label 0 records
+    → IsTrue (is_label (front_of first)) × HaveOwners name (front_of first) 0 records
+label_second name records second first many is told label form own =
+    let same : label ≡ front_of first =
+    sym (front_is label 49) ∙ ap front_of (some_same (sym (second_label name label records second many is own) ∙ told)) in
     (subst (λ l. IsTrue (is_label l)) same form, subst (λ l. HaveOwners name l 0 records) same own)
-
-pub no_label : (name : Labels) (records : List Record) (second : Record) (first : List ℕ) → 1 < length records → second ≡ get_or records 1 second
-    → first_label_of second.owner ≡ Some first → length first ≡ 0 → (label : List ℕ) → HaveOwners name label 0 records → ⊥
-no_label name records second first many is told empty label own =
-    omega (arith, empty, length-append label (49 ∷ []), ap length (some_same (sym told ∙ second_label name label records second many is own)))
 
 pub no_first : (name : Labels) (records : List Record) (second : Record) → 1 < length records → second ≡ get_or records 1 second → first_label_of second.owner ≡ None → (label : List ℕ)
     → HaveOwners name label 0 records → ⊥

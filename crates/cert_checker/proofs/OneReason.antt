@@ -96,7 +96,7 @@ one_other zones limits domain list a b x y = one_place a b (other_before zones l
 
 module _ (zones : List Zone) (limits : Limits) (domain : List ℕ) (size : ℕ) (bytes : List ℕ) where
   abbrev Reason : No → Type 0
-  Reason no = IsReason zones limits domain size bytes no
+  Reason why = IsReason zones limits domain size bytes why
 
   -- ---- what the later reasons leave of the earlier ones
 
@@ -231,9 +231,9 @@ module _ (zones : List Zone) (limits : Limits) (domain : List ℕ) (size : ℕ) 
   cut_told label label' (r ∷ next ∷ records) list x y fewest (ends, cut, fewer) =
       omega (arith, fewer, fewest ends (subst (λ l. IsFittingCut domain l size (others_at zones domain) list ends) (one_label (name_at domain) r next records label' label y x) cut))
 
-  records_told : (yes : Yes) (c : IsCertified zones limits domain size bytes yes) (found : SameChain zones limits domain bytes)
+  records_told : (answer : Yes) (c : IsCertified zones limits domain size bytes answer) (found : SameChain zones limits domain bytes)
       → IsRecordsFault domain found.chain.label size (others_at zones domain) found.chain.records (terms_of found.chain) → ⊥
-  records_told yes c found fault =
+  records_told answer c found fault =
       by (subst (λ list. IsRecordsFault domain found.chain.label size (others_at zones domain) c.chain.records list) (one_terms domain bytes found.chain c.chain)
       (subst (λ rs. IsRecordsFault domain found.chain.label size (others_at zones domain) rs (terms_of found.chain)) (one_records domain bytes found.chain c.chain) fault))
     where
@@ -244,18 +244,18 @@ module _ (zones : List Zone) (limits : Limits) (domain : List ℕ) (size : ℕ) 
       by (inl none) = none (fits_told c.chain.label found.chain.label c.chain.records c.chain.form.owners theirs c.fit)
       by (inr cut) = cut_told c.chain.label found.chain.label c.chain.records (terms_of c.chain) c.chain.form.owners theirs c.fewest cut
 
-  beside : (yes : Yes) (no : No) → IsCertified zones limits domain size bytes yes → Reason no → no ≡ Memory
-  beside yes (Refused address outcome) c x = absurd (refused_not address outcome x (same_decided (record { chain = c.chain; same = c.same })))
-  beside yes (NotZone line kind) c x = absurd (reads_not_faults (name_at domain) bytes c.chain.records line kind c.chain.reads x.1)
-  beside yes NotChain c x = absurd (chain_not x.1 c.chain)
-  beside yes (Verdict address) c x = absurd (other_not address x.1.0 x.1.1 (record { chain = c.chain; same = c.same }))
-  beside yes (Table line) c x = absurd (table_not line (length (terms_of c.chain)) x.0 (record { chain = c.chain; same = c.same }) x.1 c.table)
-  beside yes Terms c x = absurd (total_not x.1 x.0 (record { chain = c.chain; same = c.same }) x.2 x.3 c.table)
-  beside yes Records c x = absurd (records_told yes c x.0 x.2)
-  beside yes Memory c x = refl
+  beside : (answer : Yes) (why : No) → IsCertified zones limits domain size bytes answer → Reason why → why ≡ Memory
+  beside answer (Refused address outcome) c x = absurd (refused_not address outcome x (same_decided (record { chain = c.chain; same = c.same })))
+  beside answer (NotZone line kind) c x = absurd (reads_not_faults (name_at domain) bytes c.chain.records line kind c.chain.reads x.1)
+  beside answer NotChain c x = absurd (chain_not x.1 c.chain)
+  beside answer (Verdict address) c x = absurd (other_not address x.1.0 x.1.1 (record { chain = c.chain; same = c.same }))
+  beside answer (Table line) c x = absurd (table_not line (length (terms_of c.chain)) x.0 (record { chain = c.chain; same = c.same }) x.1 c.table)
+  beside answer Terms c x = absurd (total_not x.1 x.0 (record { chain = c.chain; same = c.same }) x.2 x.3 c.table)
+  beside answer Records c x = absurd (records_told answer c x.0 x.2)
+  beside answer Memory c x = refl
 
 pub one_reason : OneReason
 one_reason zones limits domain size bytes a b ma mb x y = either zones limits domain size bytes a b ma mb x y
 
 pub no_reason_beside_yes : NoReasonBesideYes
-no_reason_beside_yes zones limits domain size bytes yes no c x = beside zones limits domain size bytes yes no c x
+no_reason_beside_yes zones limits domain size bytes answer why c x = beside zones limits domain size bytes answer why c x
