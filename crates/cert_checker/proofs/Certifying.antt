@@ -75,6 +75,29 @@ checked_fault bytes due list t (table.NotTable line) alike spelled named = inr (
 })
 checked_fault bytes due list t table.Memory alike spelled named = tt
 
+-- ---- the chain that was read
+
+pub record Found (domain bytes : List ℕ) (records : List Record) (label : List ℕ) (list : List FlatTerm) : Type 0 where
+  pub chain : ReadChain domain bytes
+  pub same_records : chain.records ≡ records
+  pub same_label : chain.label ≡ label
+  pub same_list : terms_of chain ≡ list
+
+pub found_chain : (domain bytes : List ℕ) (name : List (List ℕ)) (records : List Record) (label : List ℕ) (list : List FlatTerm) → name ≡ name_at domain → Reads name bytes records
+    → (lists : List (List FlatTerm)) × HasChainForm name records label lists × (list ≡ all_terms lists) → Found domain bytes records label list
+found_chain domain bytes name records label list same reads (lists, form, is) = record {
+  chain = record {
+    records = records;
+    label = label;
+    lists = lists;
+    reads = subst (λ n. Reads n bytes records) same reads;
+    form = subst (λ n. HasChainForm n records label lists) same form;
+  };
+  same_records = refl;
+  same_label = refl;
+  same_list = sym is;
+}
+
 -- ---- the reasons
 
 module _ (zones : List Zone) (limits : Limits) (domain : List ℕ) (size : ℕ) (bytes : List ℕ) where
@@ -105,7 +128,7 @@ module _ (zones : List Zone) (limits : Limits) (domain : List ℕ) (size : ℕ) 
   reason_list due chain Terms keep h = absurd h
   reason_list due chain Records keep h = absurd h
 
-  same_chain : (due : VerdictTries) (chain : ReadChain domain bytes) → KeepVerdicts limits zones domain due.v4 due.v6 → AllAlike due (terms_of chain) → SameChain zones limits domain bytes
+  abbrev same_chain : (due : VerdictTries) (chain : ReadChain domain bytes) → KeepVerdicts limits zones domain due.v4 due.v6 → AllAlike due (terms_of chain) → SameChain zones limits domain bytes
   same_chain due chain keep alike = record { chain = chain; same = same_list limits zones domain due (terms_of chain) keep alike }
 
   pub reason_table : (due : VerdictTries) (chain : ReadChain domain bytes) (no : No) → KeepVerdicts limits zones domain due.v4 due.v6 → AllAlike due (terms_of chain)
@@ -133,10 +156,10 @@ module _ (zones : List Zone) (limits : Limits) (domain : List ℕ) (size : ℕ) 
 
   -- ---- what is accepted
 
-  pub certified : (due : VerdictTries) (chain : ReadChain domain bytes) (yes : Yes) → IsTrue (is_domain domain) → KeepVerdicts limits zones domain due.v4 due.v6 → AllAlike due (terms_of chain)
+  pub certified : (due : VerdictTries) (chain : ReadChain domain bytes) (answer : Yes) → IsTrue (is_domain domain) → KeepVerdicts limits zones domain due.v4 due.v6 → AllAlike due (terms_of chain)
       → HasTable bytes (terms_of chain) (length (terms_of chain)) → AreFewest domain chain.label size (others_at zones domain) chain.records (terms_of chain)
-      → yes.terms ≡ length (terms_of chain) → yes.records ≡ length chain.records → IsCertified zones limits domain size bytes yes
-  certified due chain yes is keep alike table fewest terms records =
+      → answer.terms ≡ length (terms_of chain) → answer.records ≡ length chain.records → IsCertified zones limits domain size bytes answer
+  certified due chain answer is keep alike table fewest terms records =
       let same : IsSameList zones limits domain (terms_of chain) = same_list limits zones domain due (terms_of chain) keep alike in
       record {
         chain = chain;
@@ -152,3 +175,35 @@ module _ (zones : List Zone) (limits : Limits) (domain : List ℕ) (size : ℕ) 
         fit = fewest.fit;
         fewest = fewest.fewest;
       }
+
+  -- ---- the same for what was read
+
+  pub list_so : (due : VerdictTries) (records : List Record) (label : List ℕ) (list : List FlatTerm) (why : No) → Found domain bytes records label list
+      → KeepVerdicts limits zones domain due.v4 due.v6 → IsListNo due list why → IsReason zones limits domain size bytes why
+  list_so due records label list why f keep h = reason_list due f.chain why keep (subst (λ l. IsListNo due l why) (sym f.same_list) h)
+
+  pub table_so : (due : VerdictTries) (records : List Record) (label : List ℕ) (list : List FlatTerm) (why : No) → Found domain bytes records label list
+      → KeepVerdicts limits zones domain due.v4 due.v6 → AllAlike due list → IsTableNo bytes list why → IsReason zones limits domain size bytes why
+  table_so due records label list why f keep alike h =
+      reason_table due f.chain why keep (subst (AllAlike due) (sym f.same_list) alike) (subst (λ l. IsTableNo bytes l why) (sym f.same_list) h)
+
+  pub records_so : (due : VerdictTries) (records : List Record) (label : List ℕ) (list : List FlatTerm) (others : ℕ) (why : No) → Found domain bytes records label list
+      → KeepVerdicts limits zones domain due.v4 due.v6 → AllAlike due list → HasTable bytes list (length list) → others ≡ others_at zones domain
+      → IsRecordsNo domain label size others records list why → IsReason zones limits domain size bytes why
+  records_so due records label list others why f keep alike table same h =
+      reason_records due f.chain why keep (subst (AllAlike due) (sym f.same_list) alike) (subst (λ l. HasTable bytes l (length l)) (sym f.same_list) table)
+      (subst (λ l. IsRecordsNo domain f.chain.label size (others_at zones domain) f.chain.records l why) (sym f.same_list)
+      (subst (λ rs. IsRecordsNo domain f.chain.label size (others_at zones domain) rs list why) (sym f.same_records)
+      (subst (λ l. IsRecordsNo domain l size (others_at zones domain) records list why) (sym f.same_label)
+      (subst (λ o. IsRecordsNo domain label size o records list why) same h))))
+
+  pub certified_so : (due : VerdictTries) (records : List Record) (label : List ℕ) (list : List FlatTerm) (others : ℕ) (answer : Yes) → Found domain bytes records label list → IsTrue (is_domain domain)
+      → KeepVerdicts limits zones domain due.v4 due.v6 → AllAlike due list → HasTable bytes list (length list) → others ≡ others_at zones domain
+      → AreFewest domain label size others records list → answer.terms ≡ length list → answer.records ≡ length records → IsCertified zones limits domain size bytes answer
+  certified_so due records label list others answer f is keep alike table same fewest terms counted =
+      certified due f.chain answer is keep (subst (AllAlike due) (sym f.same_list) alike) (subst (λ l. HasTable bytes l (length l)) (sym f.same_list) table)
+      (subst (λ l. AreFewest domain f.chain.label size (others_at zones domain) f.chain.records l) (sym f.same_list)
+      (subst (λ rs. AreFewest domain f.chain.label size (others_at zones domain) rs list) (sym f.same_records)
+      (subst (λ l. AreFewest domain l size (others_at zones domain) records list) (sym f.same_label)
+      (subst (λ o. AreFewest domain label size o records list) same fewest))))
+      (terms ∙ ap length (sym f.same_list)) (counted ∙ ap length (sym f.same_records))

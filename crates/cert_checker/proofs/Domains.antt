@@ -1,9 +1,10 @@
 -- A domain is a legal name of two labels or more.
-use Rattle.std.proofs.Common.{◌≡◌, ℕ, ◌≤◌, ◌==◌, ◌&&◌, true, IsTrue, Ok, List, [], ◌∷◌, length, map, None, refl, sym, ap, ◌∙◌, subst}
+use Rattle.std.proofs.Common.{◌≡◌, ℕ, ◌≤◌, ◌==◌, ◌&&◌, true, IsTrue, IsOk, Ok, Result, List, [], ◌∷◌, length, map, None, refl, sym, ap, ◌∙◌, subst}
 use Rattle.std.specs.Prelude.{nat_le}
 use Rattle.std.specs.List.{list_all, slice_split}
 use Rattle.std.proofs.lemmas.Bool.{and_parts, leb-true}
 use Rattle.dns_name.specs.Name.{IsLabel, lowercase_label, earlier_fault, first_fault, name_of_text, is_dot}
+use Rattle.dns_name.specs.declared.fault.NameFault.{NameFault}
 use Rattle.dns_name.proofs.Names.{no_fault_from_label}
 use Rattle.dns_name.proofs.Texts.{text_makes_name}
 use Rattle.spf_macros.specs.Grammar.{is_toplabel}
@@ -46,3 +47,9 @@ named_at domain h = made domain h ∙ sym (ap (λ r. Ok (or_root r)) (made domai
 
 pub has_two : (domain : List ℕ) → IsTrue (is_domain domain) → HasTwoLabels (name_at domain)
 has_two domain h = subst HasTwoLabels (sym (ap or_root (made domain h))) (two_labels (slice_split is_dot domain) (parts_of domain h).many)
+
+pub is_name : (domain : List ℕ) → IsTrue (is_domain domain) → IsOk (name_of_text domain)
+is_name domain h = subst IsOk (sym (named_at domain h)) tt
+
+pub name_same : (domain : List ℕ) (name : List (List ℕ)) (r : Result (List (List ℕ)) NameFault) → r ≡ name_of_text domain → r ≡ Ok name → name ≡ name_at domain
+name_same domain name r told is = ap or_root (sym is ∙ told)

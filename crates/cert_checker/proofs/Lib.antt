@@ -5,4 +5,6 @@ mod Domains
 mod LikeLemmas
 mod LinkLemmas
 mod ListVerdicts
+mod OneChain
+mod OneReason
 mod Prefixes

@@ -37,11 +37,11 @@ use Rattle.cert_checker.specs.Reasons.{HasTable, IsLeastOther, IsSameList, verdi
 
 behind_last : (bits from : ℕ) (leaves : List (Cidr × Verdict)) (a : ℕ) → CoverInOrder bits from (2 ^ bits) leaves → 2 ^ bits ≤ a → value_at bits leaves a ≡ None
 behind_last bits from [] a cover past = refl
-behind_last bits from (leaf ∷ leaves) a cover past = by (cut_of bits a leaf.0.len == leaf.0.start) refl
+behind_last bits from (leaf ∷ leaves) a cover past = by (cut_of bits a leaf.0.len == leaf.0.start) refl (behind_last bits (from + 2 ^ (bits - leaf.0.len)) leaves a cover.2 past)
   where
-    by : (t : Bool) → (cut_of bits a leaf.0.len == leaf.0.start) ≡ t → cond t (Some leaf.1) (value_at bits leaves a) ≡ None
-    by true e = absurd (omega (arith, range_from_Covers bits leaf.0 a (eqb-true (cut_of bits a leaf.0.len) leaf.0.start e), net_ends bits leaf.0 cover.0, past))
-    by false e = behind_last bits (from + 2 ^ (bits - leaf.0.len)) leaves a cover.2 past
+    by : (t : Bool) → (cut_of bits a leaf.0.len == leaf.0.start) ≡ t → value_at bits leaves a ≡ None → cond t (Some leaf.1) (value_at bits leaves a) ≡ None
+    by true e rest = absurd (omega (arith, range_from_Covers bits leaf.0 a (eqb-true (cut_of bits a leaf.0.len) leaf.0.start e), net_ends bits leaf.0 cover.0, past))
+    by false e rest = rest
 
 -- so a trie that has the verdicts of a list has no others
 pub trie_is : (f : Family) (due : List (Cidr × Verdict)) (list : List FlatTerm) → CoverInOrder (bits_of f) 0 (2 ^ bits_of f) due → AreAlike f (bits_of f) due list

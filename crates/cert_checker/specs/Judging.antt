@@ -1,5 +1,5 @@
 -- What the steps of verifying answer of the chain and of its records: the project's own form.
-use Rattle.std.specs.Prelude.{◌≡◌, ◌≤◌, ℕ, Bool, true, false, IsTrue, List, length, Option, Some, None}
+use Rattle.std.specs.Prelude.{◌≡◌, ◌≤◌, ℕ, Bool, true, false, IsTrue, List, [], ◌∷◌, length, Option, Some, None}
 use Rattle.std.specs.Borrow.{Bor}
 use Rattle.master_reader.specs.declared.record.Record.{Record}
 use Rattle.spf_macros.specs.Words.{is_label}
@@ -16,6 +16,12 @@ use Rattle.cert_checker.specs.declared.chain.Chain.{Chain}
 
 -- ---- the chain
 
+-- a text without its last byte, if there is one
+abbrev pub front_of : List ℕ → List ℕ
+front_of [] = []
+front_of (x ∷ []) = []
+front_of (x ∷ y ∷ xs) = x ∷ front_of (y ∷ xs)
+
 -- a label that all owners have, if there is any, or none that they have
 abbrev pub IsLabelAnswer : Labels → List Record → Option (Bor (List ℕ)) → Type 0
 IsLabelAnswer name records None = (label : List ℕ) → ¬ HaveOwners name label 0 records
@@ -24,7 +30,8 @@ IsLabelAnswer name records (Some found) = (label : List ℕ) → IsTrue (is_labe
 
 -- the records are a chain with this label and this list, or none
 abbrev pub IsChainAnswer : Labels → List Record → Option Chain → Type 0
-IsChainAnswer name records None = (label : List ℕ) (lists : List (List FlatTerm)) → ¬ HasChainForm name records label lists
+IsChainAnswer name records None = (label : List ℕ) (lists : List (List FlatTerm))
+    → ¬ HasChainForm name records label lists
 IsChainAnswer name records (Some chain) = (lists : List (List FlatTerm))
     × HasChainForm name records chain.label.now lists × (chain.list ≡ all_terms lists)
 

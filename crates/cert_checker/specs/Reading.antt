@@ -42,8 +42,8 @@ pub record AreTaken (terms rest : List Term) (old new : List FlatTerm) : Type 0 
   pub most : BeginOtherwise rest
   pub appended : new ≡ old ++ flat
 
--- RFC 7208, section 6.1: a record with these flat terms, and others behind them, is one of a chain, before a record with
--- this name or as the last one
+-- RFC 7208, section 6.1: a record with these flat terms, and others behind them, is one of a chain, before a record
+-- with this name or as the last one
 abbrev pub GoesOn : List FlatTerm → List Term → Option Labels → Type 0
 GoesOn flat rest None = (rest ≡ []) × IsTrue (has_all_last flat)
 GoesOn flat rest (Some next) =

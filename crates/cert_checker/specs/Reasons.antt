@@ -110,7 +110,8 @@ HasOtherTotal zones limits domain bytes =
 -- the table shows that no list is shorter, and the records have a fault
 abbrev pub HasOtherRecords : List Zone → Limits → (domain : List ℕ) → (size : ℕ) → (bytes : List ℕ) → Type 0
 HasOtherRecords zones limits domain size bytes =
-    (found : SameChain zones limits domain bytes) × HasTable bytes (terms_of found.chain) (length (terms_of found.chain))
+    (found : SameChain zones limits domain bytes)
+    × HasTable bytes (terms_of found.chain) (length (terms_of found.chain))
     × IsRecordsFault domain found.chain.label size (others_at zones domain) found.chain.records (terms_of found.chain)
 
 -- project's own choice of the reasons and of their order; want of memory may come anywhere

@@ -52,10 +52,10 @@ fn judge_table(
     Ok(())
 }
 
-/// Whether the bytes, whoever wrote them, are a fragment for the domain that says the same as its policy over the zones,
-/// which is read under these limits, by the fewest terms and in the fewest records that take less than `size` octets
-/// each (RFC 7208, sections 3.4, 4 and 6.1). The domain is DOMAIN of the command line, in lower case. `Yes` has the
-/// numbers of terms and records; `No` is the first reason that holds.
+/// Whether the bytes, whoever wrote them, are a fragment for the domain that says the same as its policy over the
+/// zones, which is read under these limits, by the fewest terms and in the fewest records that take less than `size`
+/// octets each (RFC 7208, sections 3.4, 4 and 6.1). The domain is DOMAIN of the command line, in lower case. `Yes` has
+/// the numbers of terms and records; `No` is the first reason that holds.
 pub fn verify(
     alloc: Global,
     zones: &Zones,

@@ -2,7 +2,7 @@
 ghost use Rattle.std.specs.Prelude.{◌≡◌, ◌++◌, ◌↔◌, List, ℕ, IsTrue, IfOk, decimal};
 ghost use Rattle.zone_writer.specs.Written.{record_owner};
 ghost use Rattle.cert_checker.specs.Forms.{HaveOwners};
-ghost use Rattle.cert_checker.specs.Judging.{IsChainAnswer, IsLabelAnswer};
+ghost use Rattle.cert_checker.specs.Judging.{IsChainAnswer, IsLabelAnswer, front_of};
 
 use crate::links::read_links;
 use dns_name::Name;
@@ -62,14 +62,25 @@ fn have_owners(records: &[Record], name: &Name, label: &[u8]) -> bool
     true
 }
 
-/// The label that the second record tells; where there is none, any one serves.
+/// The label without its last byte, if there is one.
+fn without_last(label: &[u8]) -> &[u8]
+    ensures { result.now ≡ front_of label.now }
+{
+    match label.split_last() {
+        Some((_, front)) => front,
+        None => label,
+    }
+}
+
+/// What the name of the second record has in front of its number. Where there is no second record, any label serves.
 fn label_of(records: &[Record]) -> Option<&[u8]>
     ensures { (name : List (List ℕ)) → IsLabelAnswer name records.now result }
 {
-    match records.get(1) {
-        Some(second) => second.owner.first_label()?.strip_suffix(b"1".as_slice()),
-        None => Some(NO_LABEL),
-    }
+    let Some(second) = records.get(1) else {
+        return Some(NO_LABEL);
+    };
+    let first = second.owner.first_label()?;
+    Some(without_last(first))
 }
 
 /// The chain that the records are, from the name on; `None` where they are none.

@@ -4,9 +4,11 @@
 mod answer;
 mod certificate;
 mod chain;
+mod laws;
 mod links;
 mod records;
 mod verdicts;
 
 pub use answer::{No, Yes};
 pub use certificate::verify;
+pub use laws::{no_reason_beside_yes, one_reason};

@@ -129,8 +129,8 @@ fn only_redirect(terms: &[Term]) -> Option<&MacroText>
     }
 }
 
-/// Whether a record with these flat terms, and others behind them, is one of a chain: before a record with this name, or
-/// the last one.
+/// Whether a record with these flat terms, and others behind them, is one of a chain: before a record with this name,
+/// or the last one.
 fn goes_on(
     alloc: Global,
     flat: &[FlatTerm],
