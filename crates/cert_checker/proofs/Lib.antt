@@ -5,6 +5,6 @@ mod Domains
 mod LikeLemmas
 mod LinkLemmas
 mod ListVerdicts
-mod OneChain
-mod OneReason
+pub mod OneChain
+pub mod OneReason
 mod Prefixes
