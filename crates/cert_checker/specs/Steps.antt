@@ -36,4 +36,3 @@ IsTableNo bytes list (Table line) = IsTableFault bytes list line
 IsTableNo bytes list Terms = (total : ℕ) × HasTable bytes list total × (length list ≢ total)
 IsTableNo bytes list Memory = Unit {0}
 IsTableNo bytes list _ = ⊥
-
