@@ -28,28 +28,28 @@ abbrev pub Comes : Answering → Run → Verdict → (most voids : ℕ) → Type
 Comes zones run verdict most voids = (after : Counts) × EndsWith zones run (Is verdict) after × (after.lookups < most) × (after.voids ≡ voids)
 
 -- a network goes on with whether it covers the address
-judge_flat : (site : Site) (sub : Sub) (t : ℕ) (n : Net) (counts : Counts) (go : Bool → Counts → Run)
-    → judge site sub t (mechanism_of n) counts go ≡ go (covers n site.address) counts
-judge_flat site sub t (net.V4 p) counts go = refl
-judge_flat site sub t (net.V6 p) counts go = refl
-judge_flat site sub t net.All counts go = refl
+judge_flat : (site : Site) (a : Address) (sub : Sub) (t : ℕ) (n : Net) (counts : Counts) (go : Bool → Counts → Run)
+    → judge site a sub t (mechanism_of n) counts go ≡ go (covers n a) counts
+judge_flat site a sub t (net.V4 p) counts go = refl
+judge_flat site a sub t (net.V6 p) counts go = refl
+judge_flat site a sub t net.All counts go = refl
 
 -- flat terms give the first verdict, or what the terms behind them come to
-flat_comes : (zones : Answering) (site : Site) (sub : Sub) (t : ℕ) (terms : List FlatTerm) (behind : List Term) (tail : List FlatTerm) (counts : Counts)
+flat_comes : (zones : Answering) (site : Site) (a : Address) (sub : Sub) (t : ℕ) (terms : List FlatTerm) (behind : List Term) (tail : List FlatTerm) (counts : Counts)
     (last : Counts → Run) (most : ℕ) → counts.lookups < most
-    → ((u : ℕ) → Comes zones (tried (judge site sub) u behind counts last) (first tail site.address) most counts.voids)
-    → Comes zones (tried (judge site sub) t (directives_of terms behind) counts last) (first (terms ++ tail) site.address) most counts.voids
-flat_comes zones site sub t [] behind tail counts last most below rest = rest t
-flat_comes zones site sub t (term ∷ terms) behind tail counts last most below rest =
-    subst (λ run. Comes zones run (first (term ∷ (terms ++ tail)) site.address) most counts.voids)
-    (sym (judge_flat site sub t term.net counts (unless_matched term.verdict next)))
-    (by_test (flat_comes zones site sub (term_after t) terms behind tail counts last most below rest) (covers term.net site.address))
+    → ((u : ℕ) → Comes zones (tried (judge site a sub) u behind counts last) (first tail a) most counts.voids)
+    → Comes zones (tried (judge site a sub) t (directives_of terms behind) counts last) (first (terms ++ tail) a) most counts.voids
+flat_comes zones site a sub t [] behind tail counts last most below rest = rest t
+flat_comes zones site a sub t (term ∷ terms) behind tail counts last most below rest =
+    subst (λ run. Comes zones run (first (term ∷ (terms ++ tail)) a) most counts.voids)
+    (sym (judge_flat site a sub t term.net counts (unless_matched term.verdict next)))
+    (by_test (flat_comes zones site a sub (term_after t) terms behind tail counts last most below rest) (covers term.net a))
   where
     next : Counts → Run
-    next counts = tried (judge site sub) (term_after t) (directives_of terms behind) counts last
+    next counts = tried (judge site a sub) (term_after t) (directives_of terms behind) counts last
 
-    by_test : Comes zones (next counts) (first (terms ++ tail) site.address) most counts.voids
-        → (b : Bool) → Comes zones (unless_matched term.verdict next b counts) (cond b term.verdict (first (terms ++ tail) site.address)) most counts.voids
+    by_test : Comes zones (next counts) (first (terms ++ tail) a) most counts.voids
+        → (b : Bool) → Comes zones (unless_matched term.verdict next b counts) (cond b term.verdict (first (terms ++ tail) a)) most counts.voids
     by_test later true = (counts, (refl, refl), below, refl)
     by_test later false = later
 
@@ -65,7 +65,7 @@ redirect_none t (term ∷ terms) = redirect_none (term_after t) terms
 -- a record at a name gives what its terms come to
 record_comes : (zones : Answering) (limits : Limits) (a : Address) (depth : ℕ) (domain : List ℕ) (name : Labels) (terms : List FlatTerm)
     (redirect : Option (List Piece)) (counts : Counts) (verdict : Verdict) (most voids : ℕ) → StandsAt zones name terms redirect
-    → Comes zones (evaluated (record { limits = limits; address = a; domain = domain; name = name }) (check limits a depth) (directives_of terms (redirect_terms redirect)) counts) verdict most voids
+    → Comes zones (evaluated (record { limits = limits; family = family_of a; domain = domain; name = name }) a (check limits a depth) (directives_of terms (redirect_terms redirect)) counts) verdict most voids
     → Comes zones (check limits a (suc depth) domain name counts) verdict most voids
 record_comes zones limits a depth domain [] terms redirect counts verdict most voids stands comes = absurd stands
 record_comes zones limits a depth domain (label ∷ []) terms redirect counts verdict most voids stands comes = absurd stands
@@ -78,7 +78,7 @@ record_comes zones limits a depth domain (label ∷ other ∷ labels) terms redi
     name = label ∷ other ∷ labels
 
     go : List Term → Run
-    go ts = evaluated (record { limits = limits; address = a; domain = domain; name = name }) (check limits a depth) ts counts
+    go ts = evaluated (record { limits = limits; family = family_of a; domain = domain; name = name }) a (check limits a depth) ts counts
 
     reads : Comes zones (go stands.policy.terms) verdict most voids → Comes zones (with_texts name counts (stands.text ∷ []) go) verdict most voids
     reads h = (h.0, (Some stands.policy, stands.spells, h.1), h.2, h.3)
@@ -96,7 +96,7 @@ leads_comes : (zones : Answering) (site : Site) (sub : Sub) (t : ℕ) (spec : Li
     → Comes zones (with_verdict site sub t spec counts (λ found after. Ends (Is found) after)) verdict most voids
 leads_comes zones site sub t spec text there counts verdict most voids leads within h =
     counts_on zones site t more onward verdict most voids (nat_le (counts.lookups + 1) site.limits.lookups) within
-    (subst (λ out. Comes zones (with_text site t more out named) verdict most voids) (sym (leads.reached (family_of site.address)))
+    (subst (λ out. Comes zones (with_text site t more out named) verdict most voids) (sym (leads.reached site.family))
     (subst (λ found. Comes zones (with_name (Perm cause.Missing (at site t)) more found below) verdict most voids) (sym leads.named)
     (h.0, ends_after zones (sub text there more) (judged_by site t (λ found after. Ends (Is found) after)) (Is verdict) h.0 (Is verdict) h.0 h.1 (refl, refl), h.2, h.3)))
   where
@@ -121,12 +121,12 @@ chain_comes zones limits a depth domain name [] counts chain deep few = absurd c
 chain_comes zones limits a zero domain name (terms ∷ lists) counts chain deep few = absurd (omega (arith, deep))
 chain_comes zones limits a (suc depth) domain name (terms ∷ []) counts chain deep few =
     record_comes zones limits a depth domain name terms None counts (first (terms ++ []) a) (counts.lookups + 1) counts.voids chain
-    (flat_comes zones site sub 1 terms [] [] counts last (counts.lookups + 1) (omega arith)
+    (flat_comes zones site a sub 1 terms [] [] counts last (counts.lookups + 1) (omega arith)
     (λ u. subst (λ redirect. Comes zones (default site sub counts redirect) (first [] a) (counts.lookups + 1) counts.voids) (sym (redirect_none 1 terms))
     (counts, (refl, refl), omega arith, refl)))
   where
     site : Site
-    site = record { limits = limits; address = a; domain = domain; name = name }
+    site = record { limits = limits; family = family_of a; domain = domain; name = name }
 
     sub : Sub
     sub = check limits a depth
@@ -135,13 +135,13 @@ chain_comes zones limits a (suc depth) domain name (terms ∷ []) counts chain d
     last counts = default site sub counts (redirect_from 1 (directives_of terms []))
 chain_comes zones limits a (suc depth) domain name (terms ∷ next ∷ lists) counts chain deep few =
     record_comes zones limits a depth domain name terms (Some spec) counts (first (terms ++ all_terms (next ∷ lists)) a) most counts.voids chain.3
-    (flat_comes zones site sub 1 terms (Redirect spec ∷ []) (all_terms (next ∷ lists)) counts last most (omega arith)
+    (flat_comes zones site a sub 1 terms (Redirect spec ∷ []) (all_terms (next ∷ lists)) counts last most (omega arith)
     (λ u. subst (λ redirect. Comes zones (default site sub counts redirect) (first (all_terms (next ∷ lists)) a) most counts.voids) (sym found.1)
     (leads_comes zones site sub found.0 spec chain.1 chain.2 counts (first (all_terms (next ∷ lists)) a) most counts.voids chain.4 (le-leb (counts.lookups + 1) limits.lookups (omega (arith, few)))
     (onward (chain_comes zones limits a depth chain.1 chain.2 (next ∷ lists) (record counts { lookups = counts.lookups + 1 }) chain.5 (omega (arith, deep)) (omega (arith, few)))))))
   where
     site : Site
-    site = record { limits = limits; address = a; domain = domain; name = name }
+    site = record { limits = limits; family = family_of a; domain = domain; name = name }
 
     sub : Sub
     sub = check limits a depth

@@ -1,10 +1,11 @@
 -- More depth than there are lookups left changes nothing, and the count of lookups never falls.
-use Rattle.std.proofs.Common.{◌≡◌, ℕ, zero, suc, ◌+◌, ◌<◌, ◌≤◌, ◌↔◌, ◌||◌, Bool, true, false, List, [], ◌∷◌, map, refl, sym, subst, arith, Option, Some, None}
+use Rattle.std.proofs.Common.{◌≡◌, ℕ, zero, suc, ◌+◌, ◌<◌, ◌≤◌, ◌↔◌, Bool, true, false, List, [], ◌∷◌, map, refl, sym, subst, arith, Option, Some, None}
 use Rattle.std.proofs.lemmas.Bool.{leb-true}
 use Rattle.std.specs.Prelude.{nat_le, filter_map, length}
-use Rattle.std.specs.List.{list_any}
 use Rattle.addr_bits.specs.declared.address.Address.{Address}
 use Rattle.addr_bits.specs.Address.{family_of}
+use Rattle.zone_answers.specs.Answers.{kind_in}
+use Rattle.zone_answers.specs.declared.answer.QKind.{QKind}
 use Rattle.zone_answers.specs.declared.answer.QKind.TheVariants as kind
 use Rattle.zone_answers.specs.declared.answer.Question.{Question}
 use Rattle.zone_answers.specs.declared.answer.Answer.{Answer}
@@ -23,12 +24,13 @@ use Rattle.spf_grammar.specs.declared.policy.Term.{Term}
 use Rattle.spf_grammar.specs.declared.policy.Term.TheVariants.{Directive, Redirect, Exp, Unknown}
 use Rattle.spf_grammar.specs.declared.policy.Policy.{Policy}
 use Rattle.spf_model.specs.declared.outcome.Cause.TheVariants as cause
+use Rattle.spf_model.specs.declared.gathered.Gathered.{Gathered}
 use Rattle.spf_model.specs.declared.outcome.Counts.{Counts}
 use Rattle.spf_model.specs.declared.outcome.Limits.{Limits}
 use Rattle.spf_model.specs.declared.outcome.Outcome.{Outcome}
 use Rattle.spf_model.specs.declared.outcome.Outcome.TheVariants.{Nothing, Is, Perm, Temp, Unsettled}
 use Rattle.spf_model.specs.Run.{Run, Ends, Asks, Reads, Answering, EndsWith, then_do}
-use Rattle.spf_model.specs.Judging.{Site, Sub, Labels, at, name_of, go_if, counted, void_counted, with_text, with_target, with_name, with_host, with_verdict, answered, ask, ask_all, is_void, answer_bodies, is_found, is_pass, address_question, some_agrees, match_hosts, exchange_of, judged_by, judge}
+use Rattle.spf_model.specs.Judging.{Site, Sub, Labels, at, name_of, go_if, counted, void_counted, with_text, with_target, with_name, naming, with_verdict, answered, ask, ask_all, is_void, answer_bodies, is_pass, question_of, exchange_of, gather_hosts, gather_target, gather_mx, gather, some_void, is_met, judge_hosts, judged_by, judge}
 use Rattle.spf_model.specs.Check.{unless_matched, term_after, trying, tried, redirect_from, default, spf_text_of, with_policy, with_texts, with_answer, with_record, check}
 use Rattle.spf_model.specs.Laws.{DepthSuffices}
 use Rattle.spf_model.proofs.RunLaws.{ends_split, ends_after}
@@ -93,7 +95,7 @@ with_target_alike : (zones : Answering) (most n : ℕ) (site : Site) (t : ℕ) (
     → ((text : List ℕ) → Alike zones most n (go text) (go' text)) → Alike zones most n (with_target site t c spec go) (with_target site t c spec go')
 with_target_alike zones most n site t c None go go' least goes = goes site.domain
 with_target_alike zones most n site t c (Some spec) go go' least goes =
-    with_text_alike zones most n site t c (target (family_of site.address) site.domain spec) go go' least goes
+    with_text_alike zones most n site t c (target site.family site.domain spec) go go' least goes
 
 with_name_alike : (zones : Answering) (most n : ℕ) (o : Outcome) (c : Counts) (found : Option Labels) (go go' : Labels → Run) → n ≤ c.lookups → (IsVerdict o → ⊥)
     → ((name : Labels) → Alike zones most n (go name) (go' name)) → Alike zones most n (with_name o c found go) (with_name o c found go')
@@ -123,15 +125,6 @@ ask_all_alike zones most n site t c (q ∷ qs) go go' least goes =
 
 abbrev pub BothAlike : Answering → ℕ → ℕ → (Bool → Counts → Run) → (Bool → Counts → Run) → Type 0
 BothAlike zones most n go go' = (b : Bool) → GoesAlike zones most n (go b) (go' b)
-
-match_hosts_alike : (zones : Answering) (n : ℕ) (site : Site) (t : ℕ) (c : Counts) (l4 l6 : ℕ) (before : Bool) (hosts : List Labels) (go go' : Bool → Counts → Run)
-    → n ≤ c.lookups → c.lookups ≤ site.limits.lookups → BothAlike zones site.limits.lookups n go go'
-    → Alike zones site.limits.lookups n (match_hosts site t c l4 l6 before hosts go) (match_hosts site t c l4 l6 before hosts go')
-match_hosts_alike zones n site t c l4 l6 before hosts go go' least within goes =
-    ask_all_alike zones site.limits.lookups n site t c (map (address_question site.address) hosts)
-    (λ answers. void_counted site t ((before || list_any is_void answers)) c (λ c'. go (some_agrees l4 l6 site.address answers) c'))
-    (λ answers. void_counted site t ((before || list_any is_void answers)) c (λ c'. go' (some_agrees l4 l6 site.address answers) c')) least
-    (λ answers. void_counted_alike zones n site t ((before || list_any is_void answers)) c _ _ least within (goes (some_agrees l4 l6 site.address answers)))
 
 -- what an include or a redirect makes of an end
 abbrev pub AfterAlike : Answering → ℕ → ℕ → (Outcome → Counts → Run) → (Outcome → Counts → Run) → Type 0
@@ -165,12 +158,59 @@ judged_by_alike zones n site t go go' goes (Unsettled cause place) c least withi
 abbrev pub SubsAlike : Answering → ℕ → ℕ → Sub → Sub → Type 0
 SubsAlike zones most n sub sub' = (text : List ℕ) (name : Labels) → GoesAlike zones most (suc n) (sub text name) (sub' text name)
 
-with_host_alike : (zones : Answering) (n : ℕ) (site : Site) (t : ℕ) (spec : Option (List Piece)) (c : Counts) (go go' : Labels → Counts → Run) → n ≤ c.lookups
-    → ((name : Labels) → GoesAlike zones site.limits.lookups n (go name) (go' name)) → Alike zones site.limits.lookups n (with_host site t spec c go) (with_host site t spec c go')
-with_host_alike zones n site t spec c go go' least goes =
+naming_alike : (zones : Answering) (n : ℕ) (site : Site) (t : ℕ) (spec : Option (List Piece)) (c : Counts) (go go' : Labels → Run) → n ≤ c.lookups
+    → ((name : Labels) → Alike zones site.limits.lookups n (go name) (go' name)) → Alike zones site.limits.lookups n (naming site t spec c go) (naming site t spec c go')
+naming_alike zones n site t spec c go go' least goes =
+    with_target_alike zones site.limits.lookups n site t c spec _ _ least (λ text.
+    with_name_alike zones site.limits.lookups n (Unsettled cause.Target (at site t)) c (name_of text) _ _ least (λ v. v) goes)
+
+-- two ways to go on with what a term gathered
+abbrev GathersAlike : Answering → ℕ → ℕ → (Gathered → Run) → (Gathered → Run) → Type 0
+GathersAlike zones most n go go' = (gathered : Gathered) → Alike zones most n (go gathered) (go' gathered)
+
+gather_hosts_alike : (zones : Answering) (n : ℕ) (site : Site) (t : ℕ) (k : QKind) (void : Bool) (hosts : List Labels) (c : Counts) (go go' : Gathered → Run) → n ≤ c.lookups
+    → GathersAlike zones site.limits.lookups n go go'
+    → Alike zones site.limits.lookups n (gather_hosts site t k void hosts c go) (gather_hosts site t k void hosts c go')
+gather_hosts_alike zones n site t k void hosts c go go' least goes =
+    ask_all_alike zones site.limits.lookups n site t c (map (question_of k) hosts) (λ answers. go (record { void = void; answers = answers })) (λ answers. go' (record { void = void; answers = answers })) least
+    (λ answers. goes (record { void = void; answers = answers }))
+
+gather_target_alike : (zones : Answering) (n : ℕ) (site : Site) (t : ℕ) (k : QKind) (spec : Option (List Piece)) (c : Counts) (go go' : Gathered → Run) → n ≤ c.lookups
+    → GathersAlike zones site.limits.lookups n go go'
+    → Alike zones site.limits.lookups n (gather_target site t k spec c go) (gather_target site t k spec c go')
+gather_target_alike zones n site t k spec c go go' least goes =
+    naming_alike zones n site t spec c _ _ least (λ name. gather_hosts_alike zones n site t k false (name ∷ []) c go go' least goes)
+
+gather_mx_alike : (zones : Answering) (n : ℕ) (site : Site) (t : ℕ) (spec : Option (List Piece)) (c : Counts) (go go' : Gathered → Run) → n ≤ c.lookups
+    → GathersAlike zones site.limits.lookups n go go'
+    → Alike zones site.limits.lookups n (gather_mx site t spec c go) (gather_mx site t spec c go')
+gather_mx_alike zones n site t spec c go go' least goes =
+    naming_alike zones n site t spec c _ _ least (λ name.
+    ask_alike zones site.limits.lookups n site t c (question_of kind.Mx name) _ _ least (λ found.
+    let exchanges = filter_map exchange_of (answer_bodies found) in
+    go_if_alike zones site.limits.lookups n (nat_le (length exchanges) site.limits.exchanges) (Perm cause.Exchanges (at site t)) c
+    (λ c'. gather_hosts site t (kind_in site.family) (is_void found) exchanges c' go) (λ c'. gather_hosts site t (kind_in site.family) (is_void found) exchanges c' go') least (λ v. v)
+    (λ fits. gather_hosts_alike zones n site t (kind_in site.family) (is_void found) exchanges c go go' least goes)))
+
+gather_alike : (zones : Answering) (n : ℕ) (site : Site) (t : ℕ) (m : Mechanism) (c : Counts) (go go' : Gathered → Run) → n ≤ c.lookups
+    → GathersAlike zones site.limits.lookups n go go'
+    → Alike zones site.limits.lookups n (gather site t m c go) (gather site t m c go')
+gather_alike zones n site t (A spec l4 l6) c go go' least goes = gather_target_alike zones n site t (kind_in site.family) spec c go go' least goes
+gather_alike zones n site t (Mx spec l4 l6) c go go' least goes = gather_mx_alike zones n site t spec c go go' least goes
+gather_alike zones n site t (Exists spec) c go go' least goes = gather_target_alike zones n site t kind.A (Some spec) c go go' least goes
+gather_alike zones n site t All c go go' least goes = goes (record { void = false; answers = [] })
+gather_alike zones n site t (Include spec) c go go' least goes = goes (record { void = false; answers = [] })
+gather_alike zones n site t (Ptr spec) c go go' least goes = goes (record { void = false; answers = [] })
+gather_alike zones n site t (Ip4 p) c go go' least goes = goes (record { void = false; answers = [] })
+gather_alike zones n site t (Ip6 p) c go go' least goes = goes (record { void = false; answers = [] })
+
+judge_hosts_alike : (zones : Answering) (n : ℕ) (site : Site) (a : Address) (t : ℕ) (m : Mechanism) (c : Counts) (go go' : Bool → Counts → Run) → n ≤ c.lookups
+    → BothAlike zones site.limits.lookups n go go'
+    → Alike zones site.limits.lookups n (judge_hosts site a t m c go) (judge_hosts site a t m c go')
+judge_hosts_alike zones n site a t m c go go' least goes =
     counted_alike zones n site t c _ _ least (λ c' l w. let l' : n ≤ c'.lookups = omega (arith, l) in
-    with_target_alike zones site.limits.lookups n site t c' spec _ _ l' (λ text.
-    with_name_alike zones site.limits.lookups n (Unsettled cause.Target (at site t)) c' (name_of text) _ _ l' (λ v. v) (λ name. goes name c' l' w)))
+    gather_alike zones n site t m c' _ _ l' (λ gathered.
+    void_counted_alike zones n site t (some_void gathered) c' _ _ l' w (goes (is_met m a gathered.answers))))
 
 with_verdict_alike : (zones : Answering) (n : ℕ) (site : Site) (sub sub' : Sub) (t : ℕ) (spec : List Piece) (c : Counts) (go go' : Verdict → Counts → Run) → n ≤ c.lookups
     → SubsAlike zones site.limits.lookups n sub sub' → ((v : Verdict) → GoesAlike zones site.limits.lookups n (go v) (go' v))
@@ -183,51 +223,41 @@ with_verdict_alike zones n site sub sub' t spec c go go' least subs goes =
     (fewer zones site.limits.lookups n (suc n) (sub text name c') (sub' text name c') (omega arith) (subs text name c' l w))
     (judged_by_alike zones n site t go go' goes))))
 
-judge_alike : (zones : Answering) (n : ℕ) (site : Site) (sub sub' : Sub) (t : ℕ) (m : Mechanism) (c : Counts) (go go' : Bool → Counts → Run)
+judge_alike : (zones : Answering) (n : ℕ) (site : Site) (a : Address) (sub sub' : Sub) (t : ℕ) (m : Mechanism) (c : Counts) (go go' : Bool → Counts → Run)
     → n ≤ c.lookups → c.lookups ≤ site.limits.lookups → SubsAlike zones site.limits.lookups n sub sub' → BothAlike zones site.limits.lookups n go go'
-    → Alike zones site.limits.lookups n (judge site sub t m c go) (judge site sub' t m c go')
-judge_alike zones n site sub sub' t All c go go' least within subs goes = goes true c least within
-judge_alike zones n site sub sub' t (Ip4 p) c go go' least within subs goes = goes (covers (net.V4 p) site.address) c least within
-judge_alike zones n site sub sub' t (Ip6 p) c go go' least within subs goes = goes (covers (net.V6 p) site.address) c least within
-judge_alike zones n site sub sub' t (Ptr spec) c go go' least within subs goes =
+    → Alike zones site.limits.lookups n (judge site a sub t m c go) (judge site a sub' t m c go')
+judge_alike zones n site a sub sub' t All c go go' least within subs goes = goes true c least within
+judge_alike zones n site a sub sub' t (Ip4 p) c go go' least within subs goes = goes (covers (net.V4 p) a) c least within
+judge_alike zones n site a sub sub' t (Ip6 p) c go go' least within subs goes = goes (covers (net.V6 p) a) c least within
+judge_alike zones n site a sub sub' t (Ptr spec) c go go' least within subs goes =
     counted_alike zones n site t c _ _ least (λ c' l w. ends_alike zones site.limits.lookups n _ c' (omega (arith, l)) (λ v. absurd v))
-judge_alike zones n site sub sub' t (Include spec) c go go' least within subs goes =
+judge_alike zones n site a sub sub' t (Include spec) c go go' least within subs goes =
     with_verdict_alike zones n site sub sub' t spec c (λ v. go (is_pass v)) (λ v. go' (is_pass v)) least subs (λ v. goes (is_pass v))
-judge_alike zones n site sub sub' t (A spec l4 l6) c go go' least within subs goes =
-    with_host_alike zones n site t spec c _ _ least (λ name c' l w. match_hosts_alike zones n site t c' l4 l6 false (name ∷ []) go go' l w goes)
-judge_alike zones n site sub sub' t (Mx spec l4 l6) c go go' least within subs goes =
-    with_host_alike zones n site t spec c _ _ least (λ name c' l w.
-    ask_alike zones site.limits.lookups n site t c' (record { name = name; kind = kind.Mx }) _ _ l (λ found.
-    let exchanges = filter_map exchange_of (answer_bodies found) in
-    go_if_alike zones site.limits.lookups n (nat_le (length exchanges) site.limits.exchanges) (Perm cause.Exchanges (at site t)) c'
-    (λ c''. match_hosts site t c'' l4 l6 (is_void found) exchanges go) (λ c''. match_hosts site t c'' l4 l6 (is_void found) exchanges go') l (λ v. v) (λ fits.
-    match_hosts_alike zones n site t c' l4 l6 (is_void found) exchanges go go' l w goes)))
-judge_alike zones n site sub sub' t (Exists spec) c go go' least within subs goes =
-    with_host_alike zones n site t (Some spec) c _ _ least (λ name c' l w.
-    ask_alike zones site.limits.lookups n site t c' (record { name = name; kind = kind.A }) _ _ l (λ found.
-    void_counted_alike zones n site t (is_void found) c' _ _ l w (goes (is_found found))))
+judge_alike zones n site a sub sub' t (A spec l4 l6) c go go' least within subs goes = judge_hosts_alike zones n site a t (A spec l4 l6) c go go' least goes
+judge_alike zones n site a sub sub' t (Mx spec l4 l6) c go go' least within subs goes = judge_hosts_alike zones n site a t (Mx spec l4 l6) c go go' least goes
+judge_alike zones n site a sub sub' t (Exists spec) c go go' least within subs goes = judge_hosts_alike zones n site a t (Exists spec) c go go' least goes
 
 unless_alike : (zones : Answering) (most n : ℕ) (v : Verdict) (next next' : Counts → Run) → GoesAlike zones most n next next'
     → BothAlike zones most n (unless_matched v next) (unless_matched v next')
 unless_alike zones most n v next next' nexts true c least within = ends_alike zones most n (Is v) c least (λ u. within)
 unless_alike zones most n v next next' nexts false c least within = nexts c least within
 
-trying_alike : (zones : Answering) (n : ℕ) (site : Site) (sub sub' : Sub) (t : ℕ) (term : Term) (next next' : Counts → Run)
+trying_alike : (zones : Answering) (n : ℕ) (site : Site) (a : Address) (sub sub' : Sub) (t : ℕ) (term : Term) (next next' : Counts → Run)
     → SubsAlike zones site.limits.lookups n sub sub' → GoesAlike zones site.limits.lookups n next next'
-    → GoesAlike zones site.limits.lookups n (λ c. trying (judge site sub) t term c next) (λ c. trying (judge site sub') t term c next')
-trying_alike zones n site sub sub' t (Directive v m) next next' subs nexts c least within =
-    judge_alike zones n site sub sub' t m c (unless_matched v next) (unless_matched v next') least within subs (unless_alike zones site.limits.lookups n v next next' nexts)
-trying_alike zones n site sub sub' t (Redirect spec) next next' subs nexts c least within = nexts c least within
-trying_alike zones n site sub sub' t (Exp spec) next next' subs nexts c least within = nexts c least within
-trying_alike zones n site sub sub' t (Unknown name value) next next' subs nexts c least within = nexts c least within
+    → GoesAlike zones site.limits.lookups n (λ c. trying (judge site a sub) t term c next) (λ c. trying (judge site a sub') t term c next')
+trying_alike zones n site a sub sub' t (Directive v m) next next' subs nexts c least within =
+    judge_alike zones n site a sub sub' t m c (unless_matched v next) (unless_matched v next') least within subs (unless_alike zones site.limits.lookups n v next next' nexts)
+trying_alike zones n site a sub sub' t (Redirect spec) next next' subs nexts c least within = nexts c least within
+trying_alike zones n site a sub sub' t (Exp spec) next next' subs nexts c least within = nexts c least within
+trying_alike zones n site a sub sub' t (Unknown name value) next next' subs nexts c least within = nexts c least within
 
-tried_alike : (zones : Answering) (n : ℕ) (site : Site) (sub sub' : Sub) (last last' : Counts → Run) (t : ℕ) (terms : List Term)
+tried_alike : (zones : Answering) (n : ℕ) (site : Site) (a : Address) (sub sub' : Sub) (last last' : Counts → Run) (t : ℕ) (terms : List Term)
     → SubsAlike zones site.limits.lookups n sub sub' → GoesAlike zones site.limits.lookups n last last'
-    → GoesAlike zones site.limits.lookups n (λ c. tried (judge site sub) t terms c last) (λ c. tried (judge site sub') t terms c last')
-tried_alike zones n site sub sub' last last' t [] subs lasts c least within = lasts c least within
-tried_alike zones n site sub sub' last last' t (term ∷ terms) subs lasts c least within =
-    trying_alike zones n site sub sub' t term (λ c'. tried (judge site sub) (term_after t) terms c' last) (λ c'. tried (judge site sub') (term_after t) terms c' last') subs
-    (tried_alike zones n site sub sub' last last' (term_after t) terms subs lasts) c least within
+    → GoesAlike zones site.limits.lookups n (λ c. tried (judge site a sub) t terms c last) (λ c. tried (judge site a sub') t terms c last')
+tried_alike zones n site a sub sub' last last' t [] subs lasts c least within = lasts c least within
+tried_alike zones n site a sub sub' last last' t (term ∷ terms) subs lasts c least within =
+    trying_alike zones n site a sub sub' t term (λ c'. tried (judge site a sub) (term_after t) terms c' last) (λ c'. tried (judge site a sub') (term_after t) terms c' last') subs
+    (tried_alike zones n site a sub sub' last last' (term_after t) terms subs lasts) c least within
 
 default_alike : (zones : Answering) (n : ℕ) (site : Site) (sub sub' : Sub) (redirect : Option (ℕ × List Piece)) → SubsAlike zones site.limits.lookups n sub sub'
     → GoesAlike zones site.limits.lookups n (λ c. default site sub c redirect) (λ c. default site sub' c redirect)
@@ -285,11 +315,11 @@ check_alike : (zones : Answering) (limits : Limits) (a : Address) (depth : ℕ) 
     → Alike zones limits.lookups c.lookups (check limits a depth domain name c) (check limits a (suc depth) domain name c)
 check_alike zones limits a zero domain name c within deep = absurd (omega (arith, within, deep))
 check_alike zones limits a (suc depth) domain name c within deep =
-    let site : Site = record { limits = limits; address = a; domain = domain; name = name } in
+    let site : Site = record { limits = limits; family = family_of a; domain = domain; name = name } in
     let subs : SubsAlike zones limits.lookups c.lookups (check limits a depth) (check limits a (suc depth)) =
     λ text target c' l w. fewer zones limits.lookups (suc c.lookups) c'.lookups _ _ l (check_alike zones limits a depth text target c' w (omega (arith, deep, l))) in
     with_record_alike zones limits.lookups c.lookups name c _ _ (omega arith) (λ terms.
-    tried_alike zones c.lookups site (check limits a depth) (check limits a (suc depth))
+    tried_alike zones c.lookups site a (check limits a depth) (check limits a (suc depth))
     (λ c'. default site (check limits a depth) c' (redirect_from 1 terms)) (λ c'. default site (check limits a (suc depth)) c' (redirect_from 1 terms)) 1 terms subs
     (default_alike zones c.lookups site (check limits a depth) (check limits a (suc depth)) (redirect_from 1 terms) subs) c (omega arith) within)
 

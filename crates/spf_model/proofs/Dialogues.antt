@@ -1,6 +1,6 @@
 -- A run is one dialogue.
-use Rattle.std.proofs.Common.{◌≡◌, ℕ, zero, suc, ◌<◌, ◌↔◌, List, [], ◌∷◌, length, refl, sym, ap, ◌∙◌, ◌⊎◌, subst, inl, inr, arith, Option, Some, None}
-use Rattle.std.specs.Prelude.{Contains, slice_index_or}
+use Rattle.std.proofs.Common.{◌≡◌, zero, suc, List, [], ◌∷◌, refl, sym, ap, ◌∙◌, ◌⊎◌, subst, inl, inr, arith, Some, None}
+use Rattle.std.specs.Prelude.{Contains}
 use Rattle.zone_answers.specs.declared.answer.Question.{Question}
 use Rattle.spf_grammar.specs.Laws.{OnePolicy}
 use Rattle.spf_model.specs.declared.outcome.Counts.{Counts}

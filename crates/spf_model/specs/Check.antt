@@ -1,6 +1,7 @@
 -- check_host of RFC 7208, for one address.
 use Rattle.std.specs.Prelude.{ℕ, zero, suc, ◌+◌, min, List, [], ◌∷◌, filter_map, Option, Some, None, Bool, true, false, if◌then◌else◌}
 use Rattle.std.specs.List.{concat}
+use Rattle.addr_bits.specs.Address.{family_of}
 use Rattle.addr_bits.specs.declared.address.Address.{Address}
 use Rattle.master_reader.specs.declared.record.Body.{Body}
 use Rattle.master_reader.specs.declared.record.Body.TheVariants as body
@@ -65,8 +66,8 @@ default site sub counts None = Ends (Is Neutral) counts
 default site sub counts (Some redirect) = with_verdict site sub redirect.0 redirect.1 counts (λ verdict counts. Ends (Is verdict) counts)
 
 -- a record's outcome: its directives, and then its default
-abbrev pub evaluated : Site → Sub → List Term → Counts → Run
-evaluated site sub terms counts = tried (judge site sub) 1 terms counts (λ counts. default site sub counts (redirect_from 1 terms))
+abbrev pub evaluated : Site → Address → Sub → List Term → Counts → Run
+evaluated site a sub terms counts = tried (judge site a sub) 1 terms counts (λ counts. default site sub counts (redirect_from 1 terms))
 
 -- ---- the record of a name
 
@@ -125,7 +126,8 @@ abbrev pub check : Limits → Address → ℕ → Sub
 check limits a zero domain name counts = Ends (Perm cause.Lookups (record { name = name; term = 0 })) counts
 check limits a (suc depth) domain name counts =
     with_record name counts (λ terms.
-    evaluated (record { limits = limits; address = a; domain = domain; name = name }) (check limits a depth) terms counts)
+    evaluated (record { limits = limits; family = family_of a; domain = domain; name = name }) a
+    (check limits a depth) terms counts)
 
 -- RFC 7208, section 4: check_host for one address, where both counts begin at 0
 unfoldable pub check_host : Limits → Address → List ℕ → Labels → Run

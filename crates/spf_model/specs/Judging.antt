@@ -2,7 +2,6 @@
 use Rattle.std.specs.Prelude.{ℕ, ◌+◌, Bool, true, false, nat_le, List, [], ◌∷◌, ◌||◌, length, map, filter_map, Option, Some, None, Result, Ok, Err}
 use Rattle.std.specs.List.{list_any}
 use Rattle.addr_bits.specs.Prefix.{cidr_of}
-pub use Rattle.addr_bits.specs.Address.{family_of}
 use Rattle.addr_bits.specs.declared.address.Address.{Address}
 use Rattle.addr_bits.specs.declared.address.Address.TheVariants as address
 use Rattle.addr_bits.specs.declared.address.Family.{Family}
@@ -37,16 +36,18 @@ use Rattle.spf_model.specs.declared.outcome.Cause.TheVariants as cause
 use Rattle.spf_model.specs.declared.outcome.Place.{Place}
 use Rattle.spf_model.specs.declared.outcome.Outcome.{Outcome}
 use Rattle.spf_model.specs.declared.outcome.Outcome.TheVariants.{Nothing, Is, Perm, Temp, Unsettled}
+use Rattle.spf_model.specs.declared.gathered.Gathered.{Gathered}
 use Rattle.spf_model.specs.Run.{Run, Ends, Asks, then_do}
 
 -- the labels of a name
 abbrev pub Labels : Type 0
 Labels = List (List ℕ)
 
--- what a term of a record is judged by: the limits, the address, and the domain's text and name
+-- what a term of a record is judged by, for every address of a family: the limits, the family, and the domain's text
+-- and name
 pub record Site : Type 0 where
   pub limits : Limits
-  pub address : Address
+  pub family : Family
   pub domain : List ℕ
   pub name : Labels
 
@@ -94,7 +95,7 @@ with_text site t counts (Needs n) go = Ends (Unsettled (cause_of n) (at site t))
 -- RFC 7208, section 4.8: the same where a term may have no domain-spec, and its target is the domain
 abbrev pub with_target : Site → ℕ → Counts → Option (List Piece) → (List ℕ → Run) → Run
 with_target site t counts None go = go site.domain
-with_target site t counts (Some spec) go = with_text site t counts (target (family_of site.address) site.domain spec) go
+with_target site t counts (Some spec) go = with_text site t counts (target site.family site.domain spec) go
 
 -- a legal name, or none
 abbrev pub legal : Result Labels NameFault → Option Labels
@@ -115,10 +116,6 @@ with_name outcome counts (Some name) go = go name
 abbrev pub naming : Site → ℕ → Option (List Piece) → Counts → (Labels → Run) → Run
 naming site t spec counts go =
     with_target site t counts spec (λ text. with_name (Unsettled cause.Target (at site t)) counts (name_of text) go)
-
--- RFC 7208, section 4.8: a term that asks for hosts counts a lookup, and goes on with their name
-abbrev pub with_host : Site → ℕ → Option (List Piece) → Counts → (Labels → Counts → Run) → Run
-with_host site t spec counts go = counted site t counts (λ counts. naming site t spec counts (λ name. go name counts))
 
 -- RFC 7208, sections 5.2 and 6.1: the domain whose record a term asks for, its target as a text and as a name; one
 -- which is no name is an error
@@ -166,14 +163,6 @@ is_found answer.NoData = false
 is_found answer.Loop = false
 is_found (answer.Found bodies) = true
 
--- RFC 7208, section 5: the addresses of a name are asked for in the family of the address
-abbrev pub address_kind : Address → QKind
-address_kind a = kind_in (family_of a)
-
--- RFC 7208, section 5: the question for the addresses of a name
-abbrev pub address_question : Address → Labels → Question
-address_question a name = record { name = name; kind = address_kind a }
-
 -- RFC 7208, section 5.6: of two lengths, the one for the addresses of a family
 abbrev pub len_in : Family → (len4 len6 : ℕ) → ℕ
 len_in family.V4 len4 len6 = len4
@@ -195,14 +184,6 @@ body_agrees len4 len6 a body.Other = false
 abbrev pub some_agrees : ℕ → ℕ → Address → List Answer → Bool
 some_agrees len4 len6 a answers = list_any (λ found. list_any (body_agrees len4 len6 a) (answer_bodies found)) answers
 
--- RFC 7208, sections 5.3 and 5.4: asks for the addresses of these hosts, counts a void, and goes on with whether one
--- agrees. That the term had a void answer before counts for its void
-abbrev pub match_hosts : Site → ℕ → Counts → ℕ → ℕ → Bool → List Labels → (Bool → Counts → Run) → Run
-match_hosts site t counts len4 len6 before hosts go =
-    ask_all site t counts (map (address_question site.address) hosts) (λ answers.
-    void_counted site t (before || list_any is_void answers) counts
-    (λ counted. go (some_agrees len4 len6 site.address answers) counted))
-
 -- RFC 7505, section 3: the exchange of an MX record that is not the root; that the root is skipped is the project's own
 -- choice
 abbrev pub exchange_of : Body → Option Labels
@@ -215,12 +196,77 @@ exchange_of (body.Cname name) = None
 exchange_of (body.Ns name) = None
 exchange_of body.Other = None
 
--- RFC 7208, section 4.6.4: the hosts of an MX answer, of which there may not be more than the limit
-abbrev pub match_exchanges : Site → ℕ → Counts → ℕ → ℕ → Answer → (Bool → Counts → Run) → Run
-match_exchanges site t counts len4 len6 found go =
+-- ---- what a term gathers, and then judges
+
+-- the question for records of a kind at a name
+abbrev pub question_of : QKind → Labels → Question
+question_of kind name = record { name = name; kind = kind }
+
+-- RFC 7208, sections 5.3, 5.4 and 5.7: gathers the answers of these hosts. That the answer which named them was void
+-- counts for the term's void
+abbrev pub gather_hosts : Site → ℕ → QKind → Bool → List Labels → Counts → (Gathered → Run) → Run
+gather_hosts site t kind void hosts counts go =
+    ask_all site t counts (map (question_of kind) hosts) (λ answers. go (record { void = void; answers = answers }))
+
+-- RFC 7208, sections 5.3 and 5.7: the answer of the one host that a term asks for
+abbrev pub gather_target : Site → ℕ → QKind → Option (List Piece) → Counts → (Gathered → Run) → Run
+gather_target site t kind spec counts go =
+    naming site t spec counts (λ name. gather_hosts site t kind false (name ∷ []) counts go)
+
+-- RFC 7208, sections 4.6.4 and 5.4: the answers of the exchanges that were found, of which there may not be more than
+-- the limit
+abbrev pub gather_exchanges : Site → ℕ → Answer → Counts → (Gathered → Run) → Run
+gather_exchanges site t found counts go =
     let exchanges = filter_map exchange_of (answer_bodies found) in
     go_if (nat_le (length exchanges) site.limits.exchanges) (Perm cause.Exchanges (at site t)) counts
-    (λ counts. match_hosts site t counts len4 len6 (is_void found) exchanges go)
+    (λ counts. gather_hosts site t (kind_in site.family) (is_void found) exchanges counts go)
+
+-- RFC 7208, section 5.4: asks for the exchanges of a name, and then for their addresses
+abbrev pub gather_mx : Site → ℕ → Option (List Piece) → Counts → (Gathered → Run) → Run
+gather_mx site t spec counts go =
+    naming site t spec counts (λ name.
+    ask site t counts (question_of kind.Mx name) (λ found. gather_exchanges site t found counts go))
+
+-- RFC 7208, section 5: what a mechanism gathers. `a` and `mx` ask for addresses of the family (sections 5.3 and 5.4),
+-- and `exists` for those of IPv4 (section 5.7); no other mechanism asks for hosts
+abbrev pub gather : Site → ℕ → Mechanism → Counts → (Gathered → Run) → Run
+gather site t (A spec len4 len6) counts go = gather_target site t (kind_in site.family) spec counts go
+gather site t (Mx spec len4 len6) counts go = gather_mx site t spec counts go
+gather site t (Exists spec) counts go = gather_target site t kind.A (Some spec) counts go
+gather site t All counts go = go (record { void = false; answers = [] })
+gather site t (Include spec) counts go = go (record { void = false; answers = [] })
+gather site t (Ptr spec) counts go = go (record { void = false; answers = [] })
+gather site t (Ip4 p) counts go = go (record { void = false; answers = [] })
+gather site t (Ip6 p) counts go = go (record { void = false; answers = [] })
+
+-- RFC 7208, section 4.6.4: whether some answer of a term was void
+abbrev pub some_void : Gathered → Bool
+some_void gathered = gathered.void || list_any is_void gathered.answers
+
+-- RFC 7208, section 5: whether a mechanism matches an address by the answers of its hosts: `a` and `mx` where one of
+-- the addresses agrees (sections 5.3 and 5.4), and `exists` where something was found (section 5.7)
+abbrev pub is_met : Mechanism → Address → List Answer → Bool
+is_met (A spec len4 len6) a answers = some_agrees len4 len6 a answers
+is_met (Mx spec len4 len6) a answers = some_agrees len4 len6 a answers
+is_met (Exists spec) a answers = list_any is_found answers
+is_met All a answers = false
+is_met (Include spec) a answers = false
+is_met (Ptr spec) a answers = false
+is_met (Ip4 p) a answers = false
+is_met (Ip6 p) a answers = false
+
+-- RFC 7208, sections 4.6.4 and 5: counts a void of what was gathered, and goes on with whether the mechanism matches
+abbrev pub judge_gathered : Site → Address → ℕ → Mechanism → Gathered → Counts → (Bool → Counts → Run) → Run
+judge_gathered site a t mechanism gathered counts go =
+    void_counted site t (some_void gathered) counts (λ counted. go (is_met mechanism a gathered.answers) counted)
+
+-- RFC 7208, sections 4.6.4 and 5: a mechanism that asks for hosts counts a lookup, gathers their answers, and judges
+-- them
+abbrev pub judge_hosts : Site → Address → ℕ → Mechanism → Counts → (Bool → Counts → Run) → Run
+judge_hosts site a t mechanism counts go = counted site t counts (λ counts.
+    gather site t mechanism counts (λ gathered. judge_gathered site a t mechanism gathered counts go))
+
+-- ---- the mechanisms
 
 -- RFC 7208, sections 5.2 and 6.1: what a term makes of the outcome of the record that it asks for. It goes on with a
 -- verdict; that there is no record is an error; everything else ends it
@@ -243,20 +289,14 @@ is_pass Fail = false
 is_pass SoftFail = false
 is_pass Neutral = false
 
--- RFC 7208, section 5: whether a mechanism matches, and the counts after it
-abbrev pub judge : Site → Sub → Judge
-judge site sub t All counts go = go true counts
-judge site sub t (Ip4 p) counts go = go (covers (net.V4 p) site.address) counts
-judge site sub t (Ip6 p) counts go = go (covers (net.V6 p) site.address) counts
-judge site sub t (Ptr spec) counts go = counted site t counts (λ counts. Ends (Unsettled cause.Reverse (at site t)) counts)
-judge site sub t (Include spec) counts go =
+-- RFC 7208, section 5: whether a mechanism matches an address, and the counts after it
+abbrev pub judge : Site → Address → Sub → Judge
+judge site a sub t All counts go = go true counts
+judge site a sub t (Ip4 p) counts go = go (covers (net.V4 p) a) counts
+judge site a sub t (Ip6 p) counts go = go (covers (net.V6 p) a) counts
+judge site a sub t (Ptr spec) counts go = counted site t counts (λ counts. Ends (Unsettled cause.Reverse (at site t)) counts)
+judge site a sub t (Include spec) counts go =
     with_verdict site sub t spec counts (λ verdict. go (is_pass verdict))
-judge site sub t (A spec len4 len6) counts go =
-    with_host site t spec counts (λ name counts. match_hosts site t counts len4 len6 false (name ∷ []) go)
-judge site sub t (Mx spec len4 len6) counts go =
-    with_host site t spec counts (λ name counts.
-    ask site t counts (record { name = name; kind = kind.Mx }) (λ found. match_exchanges site t counts len4 len6 found go))
-judge site sub t (Exists spec) counts go =
-    with_host site t (Some spec) counts (λ name counts.
-    ask site t counts (record { name = name; kind = kind.A }) (λ found.
-    void_counted site t (is_void found) counts (λ counts. go (is_found found) counts)))
+judge site a sub t (A spec len4 len6) counts go = judge_hosts site a t (A spec len4 len6) counts go
+judge site a sub t (Mx spec len4 len6) counts go = judge_hosts site a t (Mx spec len4 len6) counts go
+judge site a sub t (Exists spec) counts go = judge_hosts site a t (Exists spec) counts go

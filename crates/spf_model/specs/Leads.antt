@@ -9,7 +9,7 @@ use Rattle.spf_grammar.specs.declared.policy.Mechanism.{Mechanism}
 use Rattle.spf_grammar.specs.declared.policy.Mechanism.TheVariants.{All, Include, A, Mx, Ptr, Ip4, Ip6, Exists}
 use Rattle.spf_grammar.specs.declared.policy.Term.{Term}
 use Rattle.spf_grammar.specs.declared.policy.Term.TheVariants.{Directive, Redirect, Exp, Unknown}
-use Rattle.spf_model.specs.declared.frame.Frame.{Frame}
+use Rattle.spf_model.specs.declared.context.RecordContext.{RecordContext}
 use Rattle.spf_model.specs.declared.outcome.Cause.TheVariants as cause
 use Rattle.spf_model.specs.declared.outcome.Counts.{Counts}
 use Rattle.spf_model.specs.declared.outcome.Halt.{Halt}
@@ -20,9 +20,10 @@ use Rattle.spf_model.specs.declared.outcome.Outcome.TheVariants.{Nothing, Is, Pe
 use Rattle.spf_model.specs.Run.{Run, Answering, EndsWith}
 use Rattle.spf_model.specs.Judging.{Site, at}
 
--- what a frame judges by
-abbrev pub site_of : Frame → Site
-site_of frame = record { limits = frame.limits; address = frame.address; domain = frame.domain.now; name = frame.name.now }
+-- what a context judges by
+abbrev pub site_of : RecordContext → Site
+site_of context =
+    record { limits = context.limits; family = context.family; domain = context.domain.now; name = context.name.now }
 
 -- the run ends as the other does
 abbrev pub LeadsTo : Answering → Run → Run → Type 0
@@ -49,10 +50,6 @@ NoVerdict (Unsettled cause place) = Unit {0}
 abbrev pub Halts : {G : Type 0} → Answering → (G → Run) → Halt → Type 0
 Halts {G} zones part (Ended outcome) = NoVerdict outcome × ((go : G) → EndsSo zones (part go) outcome)
 Halts {G} zones part Memory = Unit {0}
-
--- a part that hands its result on
-abbrev pub IsSettled : {A : Type 0} → Answering → ((A → Run) → Run) → Result A Halt → Type 0
-IsSettled zones part result = MatchResult result (HandsOn zones part) (Halts zones part)
 
 -- a part that hands the counts on
 abbrev pub Leads : {T : Type 0} → Answering → ((Counts → Run) → Run) → Counts → Result T Halt → Type 0

@@ -4,6 +4,7 @@ pub mod Check
 pub mod Result
 pub mod Endings
 pub mod Leads
+pub mod Settling
 pub mod Chains
 pub mod Laws
 pub mod Lines

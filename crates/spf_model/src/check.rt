@@ -1,5 +1,6 @@
 //! check_host (RFC 7208, section 4): records, their terms, and the records that these ask for.
 ghost use Rattle.std.specs.Prelude.{◌≡◌, ◌+◌, ◌<◌, ◌≤◌, ℕ, Some, IfOk, IsOk, option_map};
+ghost use Rattle.addr_bits.specs.Address.{family_of};
 ghost use Rattle.spf_model.specs.Run.{says};
 ghost use Rattle.spf_model.specs.Judging as judging;
 ghost use Rattle.spf_model.specs.Check as checking;
@@ -7,15 +8,15 @@ ghost use Rattle.dns_name.specs.Name.{name_of_text};
 ghost use Rattle.spf_model.specs.Result.{AreModest, Gives};
 ghost use Rattle.spf_model.specs.Leads.{site_of, required_of, IsJudged, IsTried, IsVerdictOf, TargetFits, MechanismFits, TermFits, TermsFit};
 
-use crate::frame::{Frame, name_of};
-use crate::hosts::Lens;
+use crate::context::{RecordContext, name_of};
+use crate::frame::Frame;
 use crate::outcome::Halt;
 use crate::{Cause, Counts, Limits, Outcome};
 use addr_bits::Address;
 use spf_grammar::{Mechanism, Net, Term, Verdict};
 use spf_macros::MacroText;
 use std::alloc::{AllocError, Global};
-use zone_answers::Zones;
+use zone_answers::{Questions, Zones};
 
 /// Whether a record passes the address (RFC 7208, section 5.2).
 fn is_pass(verdict: Verdict) -> bool
@@ -41,10 +42,10 @@ pub fn redirect_of(terms: &[Term]) -> Option<(u32, &MacroText)>
 impl Frame<'_> {
     /// Where a term's record does not exist, that is an error of the term (RFC 7208, sections 5.2 and 6.1).
     fn required(&self, term: u32, found: Result<Verdict, Halt>) -> Result<Verdict, Halt>
-        ensures { result ≡ required_of (site_of self.now) term found }
+        ensures { result ≡ required_of (site_of self.now.context) term found }
     {
         match found {
-            Err(Halt::Ended(Outcome::Nothing(_))) => Err(self.error(Cause::Missing, term)),
+            Err(Halt::Ended(Outcome::Nothing(_))) => Err(self.context.error(Cause::Missing, term)),
             other => other,
         }
     }
@@ -57,21 +58,25 @@ impl Frame<'_> {
         spec: &MacroText,
         counts: &mut Counts,
     ) -> Result<Verdict, Halt>
-        requires { TargetFits (Some spec.now) }
-        ensures judged { (depth : ℕ) → self.now.limits.lookups ≤ depth + counts.old.lookups
-            → IsJudged (says self.now.zones.now)
-            (judging.with_verdict (site_of self.now)
-            (checking.check self.now.limits self.now.address depth) term spec.now counts.old) counts.new result }
+        requires family { self.now.context.family ≡ family_of self.now.address }
+        requires target { TargetFits (Some spec.now) }
+        ensures judged { (depth : ℕ) → self.now.context.limits.lookups ≤ depth + counts.old.lookups
+            → IsJudged (says self.now.context.zones.now)
+            (judging.with_verdict (site_of self.now.context)
+            (checking.check self.now.context.limits self.now.address depth)
+            term spec.now counts.old) counts.new result }
         ensures grows { counts.old.lookups ≤ counts.new.lookups }
     {
-        let (domain, name) = self.find_domain(term, spec, counts)?;
-        let target = Frame {
-            alloc: self.alloc,
-            zones: self.zones,
-            limits: self.limits,
-            address: self.address,
+        self.count_lookup(term, counts)?;
+        let (domain, name) = self.context.target(term, spec)?;
+        let context = RecordContext {
             domain: domain.as_slice(),
             name: &name,
+            ..self.context
+        };
+        let target = Frame {
+            context,
+            address: self.address,
         };
         self.required(term, target.judge_record(counts))
     }
@@ -79,10 +84,13 @@ impl Frame<'_> {
     /// Whether a mechanism matches (RFC 7208, section 5).
     #[cycle(check_host)]
     fn matches(&self, term: u32, mechanism: &Mechanism, counts: &mut Counts) -> Result<bool, Halt>
-        requires { MechanismFits mechanism.now }
-        ensures judged { (depth : ℕ) → self.now.limits.lookups ≤ depth + counts.old.lookups
-            → IsJudged (says self.now.zones.now)
-            (judging.judge (site_of self.now) (checking.check self.now.limits self.now.address depth) term mechanism.now counts.old) counts.new result }
+        requires family { self.now.context.family ≡ family_of self.now.address }
+        requires fits { MechanismFits mechanism.now }
+        ensures judged { (depth : ℕ) → self.now.context.limits.lookups ≤ depth + counts.old.lookups
+            → IsJudged (says self.now.context.zones.now)
+            (judging.judge (site_of self.now.context) self.now.address
+            (checking.check self.now.context.limits self.now.address depth)
+            term mechanism.now counts.old) counts.new result }
         ensures grows { counts.old.lookups ≤ counts.new.lookups }
     {
         match mechanism {
@@ -93,21 +101,9 @@ impl Frame<'_> {
                 let verdict = self.judge_target(term, spec, counts)?;
                 Ok(is_pass(verdict))
             }
-            Mechanism::A(spec, len4, len6) => {
-                let lens = Lens {
-                    len4: *len4,
-                    len6: *len6,
-                };
-                self.match_a(term, spec.as_ref(), lens, counts)
+            Mechanism::A(_, _, _) | Mechanism::Mx(_, _, _) | Mechanism::Exists(_) => {
+                self.match_hosts(term, mechanism, counts)
             }
-            Mechanism::Mx(spec, len4, len6) => {
-                let lens = Lens {
-                    len4: *len4,
-                    len6: *len6,
-                };
-                self.match_mx(term, spec.as_ref(), lens, counts)
-            }
-            Mechanism::Exists(spec) => self.match_exists(term, spec, counts),
             Mechanism::Ptr(_) => self.match_ptr(term, counts),
         }
     }
@@ -120,11 +116,13 @@ impl Frame<'_> {
         term: &Term,
         counts: &mut Counts,
     ) -> Result<Option<Verdict>, Halt>
-        requires { TermFits term.now }
-        ensures tried { (depth : ℕ) → self.now.limits.lookups ≤ depth + counts.old.lookups
-            → IsTried (says self.now.zones.now)
-            (checking.trying (judging.judge (site_of self.now)
-            (checking.check self.now.limits self.now.address depth)) number term.now counts.old) counts.new result }
+        requires family { self.now.context.family ≡ family_of self.now.address }
+        requires fits { TermFits term.now }
+        ensures tried { (depth : ℕ) → self.now.context.limits.lookups ≤ depth + counts.old.lookups
+            → IsTried (says self.now.context.zones.now)
+            (checking.trying (judging.judge (site_of self.now.context) self.now.address
+            (checking.check self.now.context.limits self.now.address depth))
+            number term.now counts.old) counts.new result }
         ensures grows { counts.old.lookups ≤ counts.new.lookups }
     {
         let Term::Directive(verdict, mechanism) = term else {
@@ -140,11 +138,12 @@ impl Frame<'_> {
     /// The verdict of the first directive that matches (RFC 7208, section 4.6.2).
     #[cycle(check_host)]
     fn try_terms(&self, terms: &[Term], counts: &mut Counts) -> Result<Option<Verdict>, Halt>
-        requires { TermsFit terms.now }
-        ensures tried { (depth : ℕ) → self.now.limits.lookups ≤ depth + counts.old.lookups
-            → IsTried (says self.now.zones.now)
-            (checking.tried (judging.judge (site_of self.now)
-            (checking.check self.now.limits self.now.address depth)) 1 terms.now counts.old) counts.new result }
+        requires family { self.now.context.family ≡ family_of self.now.address }
+        requires fit { TermsFit terms.now }
+        ensures tried { (depth : ℕ) → self.now.context.limits.lookups ≤ depth + counts.old.lookups
+            → IsTried (says self.now.context.zones.now)
+            (checking.tried (judging.judge (site_of self.now.context) self.now.address
+            (checking.check self.now.context.limits self.now.address depth)) 1 terms.now counts.old) counts.new result }
         ensures grows { counts.old.lookups ≤ counts.new.lookups }
     {
         let mut number = 1u32;
@@ -160,13 +159,17 @@ impl Frame<'_> {
     /// The verdict of the record at the domain (RFC 7208, section 4.6).
     #[cycle(check_host)]
     pub(crate) fn judge_record(&self, counts: &mut Counts) -> Result<Verdict, Halt>
-        requires { counts.old.lookups ≤ self.now.limits.lookups }
-        ensures judged { (depth : ℕ) → self.now.limits.lookups < depth + counts.old.lookups
-            → IsVerdictOf (says self.now.zones.now)
-            (checking.check self.now.limits self.now.address depth self.now.domain.now self.now.name.now counts.old) counts.new result }
+        requires family { self.now.context.family ≡ family_of self.now.address }
+        requires within { counts.old.lookups ≤ self.now.context.limits.lookups }
+        ensures judged { (depth : ℕ) → self.now.context.limits.lookups < depth + counts.old.lookups
+            → IsVerdictOf (says self.now.context.zones.now)
+            (checking.check self.now.context.limits self.now.address depth
+            self.now.context.domain.now self.now.context.name.now counts.old) counts.new result }
         ensures grows { counts.old.lookups ≤ counts.new.lookups }
     {
-        let terms = self.find_record()?;
+        // What is asked is not told of one address.
+        let mut asked = Questions::new(self.context.alloc);
+        let terms = self.context.find_record(&mut asked)?;
         if let Some(verdict) = self.try_terms(terms.as_slice(), counts)? {
             return Ok(verdict);
         }
@@ -192,14 +195,15 @@ pub fn check_one(
     ensures { IfOk result (Gives (says zones.now) limits domain.now address) }
 {
     let name = name_of(domain).unwrap();
-    let frame = Frame {
+    let context = RecordContext {
         alloc,
         zones,
         limits,
-        address,
+        family: address.family(),
         domain,
         name: &name,
     };
+    let frame = Frame { context, address };
     let mut counts = Counts {
         lookups: 0,
         voids: 0,

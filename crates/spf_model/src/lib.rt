@@ -2,9 +2,11 @@
 #![tactic(auto)]
 
 mod check;
+mod context;
 mod ending;
 mod failure;
 mod frame;
+mod gathered;
 mod hosts;
 mod laws;
 mod lines;
@@ -12,11 +14,10 @@ mod outcome;
 mod record;
 
 pub use check::{check_one, redirect_of};
+pub use context::RecordContext;
 pub use ending::Ending;
 pub use failure::Failure;
-pub use frame::{cause_of, name_of};
-pub use hosts::{Lens, exchanges_of, is_void};
+pub use gathered::{Gathered, Lens};
 pub use laws::{chains_give_first, depth_suffices, one_end, rests_on_its_questions};
 pub use lines::{write_cause, write_outcome};
 pub use outcome::{Cause, Counts, Halt, Limits, Outcome, Place};
-pub use record::spf_texts;

@@ -11,12 +11,13 @@ use Rattle.spf_model.specs.declared.outcome.Outcome.{Outcome}
 use Rattle.spf_model.specs.declared.outcome.Outcome.TheVariants.{Is}
 use Rattle.spf_model.specs.Check.{check, check_host}
 use Rattle.spf_model.specs.Run.{Run, Ends, Answering, EndsWith, AsksFor}
-use Rattle.symbolic_check.specs.declared.scene.Scene.{Scene}
+use Rattle.spf_model.specs.declared.context.RecordContext.{RecordContext}
 use Rattle.symbolic_check.specs.declared.state.State.{State}
 use Rattle.symbolic_check.specs.declared.state.State.TheVariants.{Live, Decided, Failed}
 use Rattle.symbolic_check.specs.Steps.{outcome_of}
-use Rattle.symbolic_check.specs.Walk.{Follows, Leaves, Moves, Walks}
-use Rattle.symbolic_check.specs.Scenes.{record_stretch}
+use Rattle.spf_model.specs.Settling.{Follows}
+use Rattle.symbolic_check.specs.Walk.{Leaves, Moves, Walks}
+use Rattle.symbolic_check.specs.Stretches.{record_stretch}
 use Rattle.symbolic_check.specs.Families.{run_at, AreEndsOf}
 use Rattle.symbolic_check.proofs.Targets.{never_live}
 
@@ -69,14 +70,14 @@ ends_of_walk bits zones run begin old new ends asked more whole walk made = reco
     at : (a : ℕ) → a < 2 ^ bits → IsOver zones more (run a begin) (value_at bits ends a)
     at a below = over_at zones more (run a) begin (value_at bits old a) (value_at bits new a) (value_at bits ends a) (whole a below) (walk.each a below) (made a below)
 
-pub family_ends : (bits : ℕ) (zones : Answering) (address : ℕ → Address) (scene : Scene) (old new : List (Cidr × State)) (ends : List (Cidr × Outcome)) (asked more : List Question)
+pub family_ends : (bits : ℕ) (zones : Answering) (address : ℕ → Address) (context : RecordContext) (old new : List (Cidr × State)) (ends : List (Cidr × Outcome)) (asked more : List Question)
     → ((a : ℕ) → a < 2 ^ bits → value_at bits old a ≡ Some (Live (record { lookups = 0; voids = 0 })))
-    → Walks bits zones (record_stretch address scene (scene.limits.lookups + 1)) old new asked more
+    → Walks bits zones (record_stretch address context (context.limits.lookups + 1)) old new asked more
     → ((a : ℕ) → a < 2 ^ bits → value_at bits ends a ≡ option_map outcome_of (value_at bits new a))
-    → AreEndsOf bits zones (run_at address scene) ends asked more
+    → AreEndsOf bits zones (run_at address context) ends asked more
 unfolding check_host
-family_ends bits zones address scene old new ends asked more whole walk made =
-    let deeper : scene.limits.lookups + 1 ≡ suc scene.limits.lookups = omega arith in
-    ends_of_walk bits zones (λ a counts. check scene.limits (address a) (suc scene.limits.lookups) scene.domain.now scene.name.now counts) (record { lookups = 0; voids = 0 })
+family_ends bits zones address context old new ends asked more whole walk made =
+    let deeper : context.limits.lookups + 1 ≡ suc context.limits.lookups = omega arith in
+    ends_of_walk bits zones (λ a counts. check context.limits (address a) (suc context.limits.lookups) context.domain.now context.name.now counts) (record { lookups = 0; voids = 0 })
     old new ends asked more whole
-    (subst (λ (depth : ℕ). Walks bits zones (record_stretch address scene depth) old new asked more) deeper walk) made
+    (subst (λ (depth : ℕ). Walks bits zones (record_stretch address context depth) old new asked more) deeper walk) made

@@ -1,10 +1,6 @@
-pub mod Asking
 pub mod Combining
 pub mod Evaluated
 pub mod Families
-pub mod Finding
-pub mod Following
-pub mod Gathering
 pub mod Keying
 pub mod Matching
 pub mod Records

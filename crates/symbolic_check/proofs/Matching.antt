@@ -1,5 +1,5 @@
--- The mechanisms that ask for addresses, as walks.
-use Rattle.std.proofs.Common.{◌≡◌, ℕ, ◌<◌, ◌≤◌, ◌^◌, Bool, true, false, ◌||◌, List, [], ◌∷◌, map, length, refl, sym, ap, ◌∙◌, subst, Option, Some, None, Ok}
+-- The mechanisms that ask for hosts, as walks.
+use Rattle.std.proofs.Common.{◌≡◌, ℕ, ◌<◌, ◌≤◌, ◌^◌, Bool, true, false, ◌||◌, List, [], ◌∷◌, map, length, refl, sym, ap, ◌∙◌, subst, Option, Some, None, Ok, Err}
 use Rattle.std.specs.Prelude.{nat_le, filter_map}
 use Rattle.std.specs.List.{flat_map, list_any}
 use Rattle.std.proofs.lemmas.List.Folds.{list_any-append}
@@ -22,45 +22,48 @@ use Rattle.spf_grammar.specs.declared.policy.Mechanism.TheVariants as mechanism
 use Rattle.spf_grammar.specs.declared.policy.Term.TheVariants.{Directive}
 use Rattle.spf_model.specs.declared.outcome.Cause.TheVariants as cause
 use Rattle.spf_model.specs.declared.outcome.Counts.{Counts}
-use Rattle.spf_model.specs.declared.outcome.Outcome.TheVariants.{Perm, Unsettled}
+use Rattle.spf_model.specs.declared.outcome.Outcome.TheVariants.{Unsettled}
+use Rattle.spf_model.specs.declared.outcome.Outcome.{Outcome}
+use Rattle.spf_model.specs.declared.outcome.Halt.TheVariants.{Ended}
+use Rattle.spf_grammar.specs.declared.policy.Mechanism.{Mechanism}
 use Rattle.spf_model.specs.declared.outcome.Place.{Place}
 use Rattle.spf_model.specs.Run.{Run, Ends, Answering}
-use Rattle.spf_model.specs.Judging.{Site, at, counted, void_counted, go_if, ask, ask_all, address_question, match_hosts, match_exchanges, exchange_of, len_in, body_agrees, answer_bodies, some_agrees, is_void, is_found, naming}
+use Rattle.spf_model.specs.Judging.{at, counted, void_counted, len_in, body_agrees, answer_bodies, some_agrees, some_void, is_met, gather, judge_gathered}
 use Rattle.spf_model.specs.Check.{unless_matched}
-use Rattle.symbolic_check.specs.declared.gathered.Gathered.{Gathered}
-use Rattle.symbolic_check.specs.declared.scene.Scene.{Scene}
+use Rattle.spf_model.specs.declared.gathered.Gathered.{Gathered}
+use Rattle.spf_model.specs.declared.context.RecordContext.{RecordContext}
 use Rattle.symbolic_check.specs.declared.state.State.{State}
 use Rattle.symbolic_check.specs.Steps.{after_lookup, after_void, after_match, after_failure}
-use Rattle.symbolic_check.specs.Walk.{Stretch, Moves, Walks, SomeLive, StepsAt, StepsWith, then_stretch}
-use Rattle.symbolic_check.specs.Settling.{PartOf, site_at, Settles, SettlesBy}
-use Rattle.symbolic_check.specs.Hosts.{Found, IsGathered, gather_a, gather_exchanges, gather_mx, gather_exists, judge_hosts, judge_found}
-use Rattle.symbolic_check.specs.Scenes.{term_stretch}
+use Rattle.symbolic_check.specs.Walk.{Stretch, Moves, Walks, SomeLive, NoneLive, StepsAt, StepsWith}
+use Rattle.spf_model.specs.Leads.{site_of}
+use Rattle.spf_model.specs.Settling.{Settles}
+use Rattle.symbolic_check.specs.Stretches.{hosts_stretch, term_stretch}
 use Rattle.symbolic_check.proofs.Walking.{walks_twice, walks_by_steps}
 use Rattle.symbolic_check.proofs.Stepping.{lookup_moves, void_moves, match_moves, failure_moves}
-use Rattle.symbolic_check.proofs.Settling.{walks_passed}
+use Rattle.symbolic_check.proofs.Settling.{after_part, walks_idle, walks_passed, walks_stopped}
 use Rattle.symbolic_check.proofs.Rows.{walks_by_steps_with}
 
 -- ---- counting
 
-abbrev pub lookup_stretch : Scene → (ℕ → Address) → ℕ → ℕ → Stretch
-lookup_stretch scene address t a = counted (site_at scene (address a)) t
+abbrev pub lookup_stretch : RecordContext → ℕ → ℕ → Stretch
+lookup_stretch context t a = counted (site_of context) t
 
-pub lookup_walks : (bits : ℕ) (zones : Answering) (scene : Scene) (address : ℕ → Address) (t : ℕ) (place : Place) (old new : List (Cidr × State)) (asked : List Question)
-    → place ≡ record { name = scene.name.now; term = t } → StepsAt bits (λ a. after_lookup scene.limits place) old new
-    → Walks bits zones (lookup_stretch scene address t) old new asked asked
-lookup_walks bits zones scene address t place old new asked is steps =
-    walks_by_steps bits zones (lookup_stretch scene address t) (λ a. after_lookup scene.limits place) old new asked
-    (λ a s. subst (λ (p : Place). Moves zones asked (lookup_stretch scene address t a) s (after_lookup scene.limits p s)) (sym is) (lookup_moves zones asked (site_at scene (address a)) t s)) steps
+pub lookup_walks : (bits : ℕ) (zones : Answering) (context : RecordContext) (t : ℕ) (place : Place) (old new : List (Cidr × State)) (asked : List Question)
+    → place ≡ record { name = context.name.now; term = t } → StepsAt bits (λ a. after_lookup context.limits place) old new
+    → Walks bits zones (lookup_stretch context t) old new asked asked
+lookup_walks bits zones context t place old new asked is steps =
+    walks_by_steps bits zones (lookup_stretch context t) (λ a. after_lookup context.limits place) old new asked
+    (λ a s. subst (λ (p : Place). Moves zones asked (lookup_stretch context t a) s (after_lookup context.limits p s)) (sym is) (lookup_moves zones asked (site_of context) t s)) steps
 
-abbrev void_stretch : Scene → (ℕ → Address) → ℕ → Bool → ℕ → Stretch
-void_stretch scene address t void a = void_counted (site_at scene (address a)) t void
+abbrev void_stretch : RecordContext → ℕ → Bool → ℕ → Stretch
+void_stretch context t void a = void_counted (site_of context) t void
 
-void_walks : (bits : ℕ) (zones : Answering) (scene : Scene) (address : ℕ → Address) (t : ℕ) (place : Place) (void : Bool) (old new : List (Cidr × State)) (asked : List Question)
-    → place ≡ record { name = scene.name.now; term = t } → StepsAt bits (λ a. after_void scene.limits place void) old new
-    → Walks bits zones (void_stretch scene address t void) old new asked asked
-void_walks bits zones scene address t place void old new asked is steps =
-    walks_by_steps bits zones (void_stretch scene address t void) (λ a. after_void scene.limits place void) old new asked
-    (λ a s. subst (λ (p : Place). Moves zones asked (void_stretch scene address t void a) s (after_void scene.limits p void s)) (sym is) (void_moves zones asked (site_at scene (address a)) t void s)) steps
+void_walks : (bits : ℕ) (zones : Answering) (context : RecordContext) (t : ℕ) (place : Place) (void : Bool) (old new : List (Cidr × State)) (asked : List Question)
+    → place ≡ record { name = context.name.now; term = t } → StepsAt bits (λ a. after_void context.limits place void) old new
+    → Walks bits zones (void_stretch context t void) old new asked asked
+void_walks bits zones context t place void old new asked is steps =
+    walks_by_steps bits zones (void_stretch context t void) (λ a. after_void context.limits place void) old new asked
+    (λ a s. subst (λ (p : Place). Moves zones asked (void_stretch context t void a) s (after_void context.limits p void s)) (sym is) (void_moves zones asked (site_of context) t void s)) steps
 
 -- ---- matching
 
@@ -87,12 +90,6 @@ set_walks bits zones verdict matches set old new asked is steps =
     unsome : {b c : Bool} → Some b ≡ Some c → b ≡ c
     unsome {b} {c} e = ap (held b) e
 
--- every address, or none
-all_walks : (bits : ℕ) (zones : Answering) (verdict : Verdict) (matches : Bool) (old new : List (Cidr × State)) (asked : List Question)
-    → StepsAt bits (λ a. after_match verdict matches) old new → Walks bits zones (match_stretch verdict (λ a. matches)) old new asked asked
-all_walks bits zones verdict matches old new asked steps =
-    walks_by_steps bits zones (match_stretch verdict (λ a. matches)) (λ a. after_match verdict matches) old new asked (λ a s. match_moves zones asked verdict matches s) steps
-
 -- ---- the addresses of a family that agree
 
 host_agrees : (f : Family) (len4 len6 a : ℕ) (body : Body) → matches f (len_in f len4 len6) a body ≡ body_agrees len4 len6 (address_of f a) body
@@ -110,101 +107,62 @@ pub len_fits : (f : Family) (len4 len6 : ℕ) → len4 ≤ 32 → len6 ≤ 128 �
 len_fits V4 len4 len6 short4 short6 = short4
 len_fits V6 len4 len6 short4 short6 = short6
 
--- ---- what a term makes of what it gathered
+-- all addresses that were found, as one answer
+pub agree_as_one : (f : Family) (len len4 len6 : ℕ) → len ≡ len_in f len4 len6 → (found : Answer) (answers : List Answer) (a : ℕ) → answer_bodies found ≡ flat_map answer_bodies answers
+    → is_matched (matches f len a) found ≡ some_agrees len4 len6 (address_of f a) answers
+agree_as_one f len len4 len6 is found answers a all =
+    hosts_agree f len len4 len6 is found a ∙ ap (list_any (body_agrees len4 len6 (address_of f a))) all ∙ any_flat (body_agrees len4 len6 (address_of f a)) answer_bodies answers
 
-abbrev pub judge_hosts_at : Scene → (ℕ → Address) → ℕ → Verdict → ℕ → ℕ → ℕ → Counts → Found → (Counts → Run) → Run
-judge_hosts_at scene address t verdict len4 len6 a counts found go = judge_hosts (site_at scene (address a)) t verdict len4 len6 found counts go
+-- ---- what a mechanism makes of what it gathered
 
-pub hosts_walk : (bits : ℕ) (zones : Answering) (scene : Scene) (address : ℕ → Address) (t : ℕ) (verdict : Verdict) (len4 len6 : ℕ) (place : Place) (gathered : Gathered)
-    (set : List (Cidr × Bool)) (old between new : List (Cidr × State)) (part : PartOf Found) (asked more : List Question)
-    → place ≡ record { name = scene.name.now; term = t } → StepsAt bits (λ a. after_void scene.limits place gathered.void) old between
-    → ((a : ℕ) → a < 2 ^ bits → value_at bits set a ≡ Some (list_any (body_agrees len4 len6 (address a)) (answer_bodies gathered.found)))
-    → StepsWith bits (after_match verdict) set between new
-    → SettlesBy IsGathered zones part asked more (Ok gathered) → SomeLive bits old
-    → Walks bits zones (λ a counts go. part a counts (λ found. judge_hosts (site_at scene (address a)) t verdict len4 len6 found counts go)) old new asked more
-hosts_walk bits zones scene address t verdict len4 len6 place gathered set old between new part asked more is void_steps is_set match_steps settles live =
-    walks_passed bits zones part settles.0 (judge_hosts_at scene address t verdict len4 len6) old new asked more more settles.2 settles.3 live
-    (walks_twice bits zones (void_stretch scene address t (settles.0.0 || list_any is_void settles.0.1)) (match_stretch verdict (λ a. some_agrees len4 len6 (address a) settles.0.1)) old between new more more more
-    (subst (λ (void : Bool). Walks bits zones (void_stretch scene address t void) old between more more) settles.1.void
-    (void_walks bits zones scene address t place gathered.void old between more is void_steps))
-    (set_walks bits zones verdict (λ a. some_agrees len4 len6 (address a) settles.0.1) set between new more
-    (λ a below. is_set a below
-    ∙ ap (λ (bodies : List Body). Some (list_any (body_agrees len4 len6 (address a)) bodies)) settles.1.bodies
-    ∙ ap Some (any_flat (body_agrees len4 len6 (address a)) answer_bodies settles.0.1)) match_steps))
+pub gathered_walk : (bits : ℕ) (zones : Answering) (context : RecordContext) (address : ℕ → Address) (t : ℕ) (verdict : Verdict) (m : Mechanism) (gathered : Gathered) (place : Place) (void : Bool)
+    (set : List (Cidr × Bool)) (old between new : List (Cidr × State)) (asked : List Question)
+    → place ≡ at (site_of context) t → void ≡ some_void gathered → StepsAt bits (λ a. after_void context.limits place void) old between
+    → ((a : ℕ) → a < 2 ^ bits → value_at bits set a ≡ Some (is_met m (address a) gathered.answers)) → StepsWith bits (after_match verdict) set between new
+    → Walks bits zones (λ a counts go. judge_gathered (site_of context) (address a) t m gathered counts (unless_matched verdict go)) old new asked asked
+gathered_walk bits zones context address t verdict m gathered place void set old between new asked at_term voids void_steps is_set match_steps =
+    walks_twice bits zones (void_stretch context t (some_void gathered)) (match_stretch verdict (λ a. is_met m (address a) gathered.answers)) old between new asked asked asked
+    (subst (λ (b : Bool). Walks bits zones (void_stretch context t b) old between asked asked) voids
+    (void_walks bits zones context t place void old between asked at_term void_steps))
+    (set_walks bits zones verdict (λ a. is_met m (address a) gathered.answers) set between new asked is_set match_steps)
 
-abbrev pub judge_found_at : Scene → (ℕ → Address) → ℕ → Verdict → ℕ → Counts → Answer → (Counts → Run) → Run
-judge_found_at scene address t verdict a counts found go = judge_found (site_at scene (address a)) t verdict found counts go
+-- ---- a mechanism that asks for hosts
 
-pub found_walk : (bits : ℕ) (zones : Answering) (scene : Scene) (address : ℕ → Address) (t : ℕ) (verdict : Verdict) (place : Place) (found : Answer) (void matches : Bool)
-    (old between new : List (Cidr × State)) (part : PartOf Answer) (asked more : List Question)
-    → place ≡ record { name = scene.name.now; term = t } → void ≡ is_void found → StepsAt bits (λ a. after_void scene.limits place void) old between
-    → matches ≡ is_found found → StepsAt bits (λ a. after_match verdict matches) between new
-    → Settles zones part asked more (Ok found) → SomeLive bits old
-    → Walks bits zones (λ a counts go. part a counts (λ told. judge_found (site_at scene (address a)) t verdict told counts go)) old new asked more
-found_walk bits zones scene address t verdict place found void matches old between new part asked more is voids void_steps found_so match_steps settles live =
-    walks_passed bits zones part found (judge_found_at scene address t verdict) old new asked more more settles.0 settles.1 live
-    (walks_twice bits zones (void_stretch scene address t (is_void found)) (match_stretch verdict (λ a. is_found found)) old between new more more more
-    (subst (λ (b : Bool). Walks bits zones (void_stretch scene address t b) old between more more) voids
-    (void_walks bits zones scene address t place void old between more is void_steps))
-    (subst (λ (b : Bool). Walks bits zones (match_stretch verdict (λ a. b)) between new more more) found_so
-    (all_walks bits zones verdict matches between new more match_steps)))
+-- what goes on at an address with what was gathered
+abbrev judge_at : RecordContext → (ℕ → Address) → ℕ → Verdict → Mechanism → ℕ → Counts → Gathered → (Counts → Run) → Run
+judge_at context address t verdict m a counts gathered go = judge_gathered (site_of context) (address a) t m gathered counts (unless_matched verdict go)
 
--- ---- a term
+pub hosts_idle : (bits : ℕ) (zones : Answering) (context : RecordContext) (address : ℕ → Address) (t : ℕ) (verdict : Verdict) (m : Mechanism) (old between : List (Cidr × State)) (asked : List Question)
+    → Walks bits zones (lookup_stretch context t) old between asked asked → NoneLive bits between
+    → Walks bits zones (hosts_stretch address context t verdict m) old between asked asked
+hosts_idle bits zones context address t verdict m old between asked counts none =
+    walks_twice bits zones (lookup_stretch context t) (after_part (gather (site_of context) t m) (judge_at context address t verdict m)) old between between asked asked asked counts
+    (walks_idle bits zones (after_part (gather (site_of context) t m) (judge_at context address t verdict m)) between asked none)
 
-pub a_walk : (bits : ℕ) (zones : Answering) (scene : Scene) (address : ℕ → Address) (depth t : ℕ) (verdict : Verdict) (spec : Option (List Piece)) (len4 len6 : ℕ) (old between new : List (Cidr × State)) (asked more : List Question)
-    → Walks bits zones (lookup_stretch scene address t) old between asked asked
-    → Walks bits zones (λ a counts go. gather_a (site_at scene (address a)) t spec counts (λ found. judge_hosts (site_at scene (address a)) t verdict len4 len6 found counts go)) between new asked more
-    → Walks bits zones (term_stretch address scene depth t (Directive verdict (mechanism.A spec len4 len6))) old new asked more
-a_walk bits zones scene address depth t verdict spec len4 len6 old between new asked more f g =
-    walks_twice bits zones (lookup_stretch scene address t) (λ a counts go. gather_a (site_at scene (address a)) t spec counts (λ found. judge_hosts (site_at scene (address a)) t verdict len4 len6 found counts go))
-    old between new asked asked more f g
+pub hosts_stopped : (bits : ℕ) (zones : Answering) (context : RecordContext) (address : ℕ → Address) (t : ℕ) (verdict : Verdict) (m : Mechanism) (outcome : Outcome) (old between new : List (Cidr × State)) (asked more : List Question)
+    → Walks bits zones (lookup_stretch context t) old between asked asked → SomeLive bits between
+    → Settles zones (gather (site_of context) t m) asked more (Err (Ended outcome)) → StepsAt bits (λ a. after_failure outcome) between new
+    → Walks bits zones (hosts_stretch address context t verdict m) old new asked more
+hosts_stopped bits zones context address t verdict m outcome old between new asked more counts live settles steps =
+    walks_twice bits zones (lookup_stretch context t) (after_part (gather (site_of context) t m) (judge_at context address t verdict m)) old between new asked asked more counts
+    (walks_stopped bits zones (gather (site_of context) t m) outcome (judge_at context address t verdict m) between new asked more settles.0 settles.1 live steps)
 
--- gathering goes on with the counts that the exchanges were counted at
-exchanges_same : (site : Site) (t : ℕ) (verdict : Verdict) (len4 len6 : ℕ) (found : Answer) (counts : Counts) (go : Counts → Run)
-    → gather_exchanges site t found counts (λ hosts. judge_hosts site t verdict len4 len6 hosts counts go) ≡ match_exchanges site t counts len4 len6 found (unless_matched verdict go)
-exchanges_same site t verdict len4 len6 found counts go = by_test (nat_le (length (filter_map exchange_of (answer_bodies found))) site.limits.exchanges)
-  where
-    by_test : (test : Bool)
-        → go_if test (Perm cause.Exchanges (at site t)) counts (λ counts'. ask_all site t counts' (map (address_question site.address) (filter_map exchange_of (answer_bodies found)))
-        (λ answers. judge_hosts site t verdict len4 len6 (is_void found, answers) counts go))
-        ≡ go_if test (Perm cause.Exchanges (at site t)) counts (λ counts'. match_hosts site t counts' len4 len6 (is_void found) (filter_map exchange_of (answer_bodies found)) (unless_matched verdict go))
-    by_test true = refl
-    by_test false = refl
-
-abbrev mx_stretch : Scene → (ℕ → Address) → ℕ → Verdict → Option (List Piece) → ℕ → ℕ → ℕ → Stretch
-mx_stretch scene address t verdict spec len4 len6 a counts go =
-    gather_mx (site_at scene (address a)) t spec counts (λ found. judge_hosts (site_at scene (address a)) t verdict len4 len6 found counts go)
-
-mx_same : (scene : Scene) (address : ℕ → Address) (depth t : ℕ) (verdict : Verdict) (spec : Option (List Piece)) (len4 len6 a : ℕ) (counts : Counts) (go : Counts → Run)
-    → then_stretch (lookup_stretch scene address t a) (mx_stretch scene address t verdict spec len4 len6 a) counts go
-    ≡ term_stretch address scene depth t (Directive verdict (mechanism.Mx spec len4 len6)) a counts go
-mx_same scene address depth t verdict spec len4 len6 a counts go =
-    λ i. counted (site_at scene (address a)) t counts (λ between. naming (site_at scene (address a)) t spec between
-    (λ name. ask (site_at scene (address a)) t between (record { name = name; kind = kind.Mx }) (λ found. exchanges_same (site_at scene (address a)) t verdict len4 len6 found between go i)))
-
-pub mx_walk : (bits : ℕ) (zones : Answering) (scene : Scene) (address : ℕ → Address) (depth t : ℕ) (verdict : Verdict) (spec : Option (List Piece)) (len4 len6 : ℕ) (old between new : List (Cidr × State)) (asked more : List Question)
-    → Walks bits zones (lookup_stretch scene address t) old between asked asked
-    → Walks bits zones (λ a counts go. gather_mx (site_at scene (address a)) t spec counts (λ found. judge_hosts (site_at scene (address a)) t verdict len4 len6 found counts go)) between new asked more
-    → Walks bits zones (term_stretch address scene depth t (Directive verdict (mechanism.Mx spec len4 len6))) old new asked more
-mx_walk bits zones scene address depth t verdict spec len4 len6 old between new asked more f g =
-    subst (λ (stretch : ℕ → Stretch). Walks bits zones stretch old new asked more) (λ i a counts go. mx_same scene address depth t verdict spec len4 len6 a counts go i)
-    (walks_twice bits zones (lookup_stretch scene address t) (mx_stretch scene address t verdict spec len4 len6) old between new asked asked more f g)
-
-pub exists_walk : (bits : ℕ) (zones : Answering) (scene : Scene) (address : ℕ → Address) (depth t : ℕ) (verdict : Verdict) (spec : List Piece) (old between new : List (Cidr × State)) (asked more : List Question)
-    → Walks bits zones (lookup_stretch scene address t) old between asked asked
-    → Walks bits zones (λ a counts go. gather_exists (site_at scene (address a)) t spec counts (λ told. judge_found (site_at scene (address a)) t verdict told counts go)) between new asked more
-    → Walks bits zones (term_stretch address scene depth t (Directive verdict (mechanism.Exists spec))) old new asked more
-exists_walk bits zones scene address depth t verdict spec old between new asked more f g =
-    walks_twice bits zones (lookup_stretch scene address t) (λ a counts go. gather_exists (site_at scene (address a)) t spec counts (λ told. judge_found (site_at scene (address a)) t verdict told counts go))
-    old between new asked asked more f g
+pub hosts_walked : (bits : ℕ) (zones : Answering) (context : RecordContext) (address : ℕ → Address) (t : ℕ) (verdict : Verdict) (m : Mechanism) (gathered : Gathered) (old between new : List (Cidr × State)) (asked more : List Question)
+    → Walks bits zones (lookup_stretch context t) old between asked asked → SomeLive bits between
+    → Settles zones (gather (site_of context) t m) asked more (Ok gathered)
+    → Walks bits zones (λ a counts go. judge_gathered (site_of context) (address a) t m gathered counts (unless_matched verdict go)) between new more more
+    → Walks bits zones (hosts_stretch address context t verdict m) old new asked more
+hosts_walked bits zones context address t verdict m gathered old between new asked more counts live settles judged =
+    walks_twice bits zones (lookup_stretch context t) (after_part (gather (site_of context) t m) (judge_at context address t verdict m)) old between new asked asked more counts
+    (walks_passed bits zones (gather (site_of context) t m) gathered (judge_at context address t verdict m) between new asked more more settles.0 settles.1 live judged)
 
 -- `ptr` is left open
-pub ptr_walk : (bits : ℕ) (zones : Answering) (scene : Scene) (address : ℕ → Address) (depth t : ℕ) (verdict : Verdict) (spec : Option (List Piece)) (place : Place) (old between new : List (Cidr × State)) (asked : List Question)
-    → Walks bits zones (lookup_stretch scene address t) old between asked asked → place ≡ record { name = scene.name.now; term = t }
+pub ptr_walk : (bits : ℕ) (zones : Answering) (context : RecordContext) (address : ℕ → Address) (depth t : ℕ) (verdict : Verdict) (spec : Option (List Piece)) (place : Place) (old between new : List (Cidr × State)) (asked : List Question)
+    → Walks bits zones (lookup_stretch context t) old between asked asked → place ≡ record { name = context.name.now; term = t }
     → StepsAt bits (λ a. after_failure (Unsettled cause.Reverse place)) between new
-    → Walks bits zones (term_stretch address scene depth t (Directive verdict (mechanism.Ptr spec))) old new asked asked
-ptr_walk bits zones scene address depth t verdict spec place old between new asked f is steps =
-    walks_twice bits zones (lookup_stretch scene address t) (λ a counts go. Ends (Unsettled cause.Reverse (record { name = scene.name.now; term = t })) counts) old between new asked asked asked f
-    (walks_by_steps bits zones (λ a counts go. Ends (Unsettled cause.Reverse (record { name = scene.name.now; term = t })) counts) (λ a. after_failure (Unsettled cause.Reverse place)) between new asked
-    (λ a s. subst (λ (p : Place). Moves zones asked (λ counts go. Ends (Unsettled cause.Reverse (record { name = scene.name.now; term = t })) counts) s (after_failure (Unsettled cause.Reverse p) s)) (sym is)
-    (failure_moves zones asked (Unsettled cause.Reverse (record { name = scene.name.now; term = t })) s tt)) steps)
+    → Walks bits zones (term_stretch address context depth t (Directive verdict (mechanism.Ptr spec))) old new asked asked
+ptr_walk bits zones context address depth t verdict spec place old between new asked f is steps =
+    walks_twice bits zones (lookup_stretch context t) (λ a counts go. Ends (Unsettled cause.Reverse (record { name = context.name.now; term = t })) counts) old between new asked asked asked f
+    (walks_by_steps bits zones (λ a counts go. Ends (Unsettled cause.Reverse (record { name = context.name.now; term = t })) counts) (λ a. after_failure (Unsettled cause.Reverse place)) between new asked
+    (λ a s. subst (λ (p : Place). Moves zones asked (λ counts go. Ends (Unsettled cause.Reverse (record { name = context.name.now; term = t })) counts) s (after_failure (Unsettled cause.Reverse p) s)) (sym is)
+    (failure_moves zones asked (Unsettled cause.Reverse (record { name = context.name.now; term = t })) s tt)) steps)

@@ -1,7 +1,9 @@
 -- A record of a walk: what it asks for, its terms, and what comes where none matches.
-use Rattle.std.proofs.Common.{◌≡◌, ℕ, zero, suc, ◌-◌, ◌<◌, true, List, [], ◌∷◌, length, get_or, refl, sym, subst, arith, Option, Some, None, Result, Ok, Err, IfOk}
+use Rattle.std.proofs.Common.{◌≡◌, ℕ, zero, suc, ◌-◌, ◌<◌, true, List, [], ◌∷◌, length, get_or, refl, sym, ap, subst, arith, Option, Some, None, Result, Ok, Err, IfOk}
 use Rattle.addr_bits.specs.Prefix.{Cidr}
+use Rattle.addr_bits.specs.Address.{family_of}
 use Rattle.addr_bits.specs.declared.address.Address.{Address}
+use Rattle.addr_bits.specs.declared.address.Family.{Family}
 use Rattle.zone_answers.specs.declared.answer.Question.{Question}
 use Rattle.spf_macros.specs.declared.piece.Piece.{Piece}
 use Rattle.spf_grammar.specs.declared.verdict.Verdict.{Verdict}
@@ -20,17 +22,18 @@ use Rattle.spf_model.specs.Run.{Run, Answering}
 use Rattle.spf_model.specs.Judging.{Labels, naming_target}
 use Rattle.spf_model.specs.Check.{check, with_record, evaluated, redirect_from}
 use Rattle.spf_model.specs.Leads.{TargetFits, TermFits, TermsFit}
-use Rattle.symbolic_check.specs.declared.scene.Scene.{Scene}
+use Rattle.spf_model.specs.declared.context.RecordContext.{RecordContext}
 use Rattle.symbolic_check.specs.declared.state.State.{State}
 use Rattle.symbolic_check.specs.declared.state.Purpose.{Purpose}
 use Rattle.symbolic_check.specs.declared.state.Purpose.TheVariants.{Include, Redirect}
-use Rattle.symbolic_check.specs.Settling.{site_at, Settles}
+use Rattle.spf_model.specs.Leads.{site_of}
+use Rattle.spf_model.specs.Settling.{Settles}
 use Rattle.symbolic_check.specs.Steps.{entered, after_lookup, after_match, after_failure, after_target}
-use Rattle.symbolic_check.specs.Scenes.{term_stretch, terms_stretch, default_stretch, record_stretch, target_stretch, reached_stretch}
+use Rattle.symbolic_check.specs.Stretches.{term_stretch, terms_stretch, default_stretch, record_stretch, target_stretch, reached_stretch}
 use Rattle.symbolic_check.specs.Walk.{Stretch, Walks, SomeLive, StepsAt, StepsWith}
-use Rattle.symbolic_check.proofs.Walking.{walks_twice, walks_by_steps}
+use Rattle.symbolic_check.proofs.Walking.{walks_twice, walks_by_steps, walks_alike}
 use Rattle.symbolic_check.proofs.Stepping.{match_moves, failure_moves}
-use Rattle.symbolic_check.proofs.Settling.{walks_passed, walks_stopped}
+use Rattle.symbolic_check.proofs.Settling.{after_part, walks_passed, walks_stopped}
 use Rattle.symbolic_check.proofs.Targets.{target_walk}
 
 -- the states of a walk, or none for want of memory
@@ -46,59 +49,59 @@ stepped bits zones stretch step old asked (Err e) walks h = h
 
 -- ---- a term's record
 
-pub target_used : {E : Type 0} (bits : ℕ) (zones : Answering) (address : ℕ → Address) (scene : Scene) (depth t : ℕ) (spec : List Piece) (purpose : Purpose) (old mid inner : List (Cidr × State)) (asked more : List Question)
-    (place : Place) (result : Result (List (Cidr × State)) E) → place ≡ record { name = scene.name.now; term = t }
-    → StepsAt bits (λ a state. after_lookup scene.limits place (entered state)) old mid → Walks bits zones (reached_stretch address scene depth t spec) mid inner asked more
+pub target_used : {E : Type 0} (bits : ℕ) (zones : Answering) (address : ℕ → Address) (context : RecordContext) (depth t : ℕ) (spec : List Piece) (purpose : Purpose) (old mid inner : List (Cidr × State)) (asked more : List Question)
+    (place : Place) (result : Result (List (Cidr × State)) E) → place ≡ record { name = context.name.now; term = t }
+    → StepsAt bits (λ a state. after_lookup context.limits place (entered state)) old mid → Walks bits zones (reached_stretch address context depth t spec) mid inner asked more
     → IfOk result (λ new. StepsWith bits (after_target place purpose) inner old new)
-    → Walked E bits zones (target_stretch address scene depth t spec purpose) old asked more result
-target_used bits zones address scene depth t spec purpose old mid inner asked more place (Err e) at_term enters walks uses = uses
-target_used bits zones address scene depth t spec purpose old mid inner asked more place (Ok new) at_term enters walks uses =
-    target_walk bits zones address scene depth t spec purpose old mid inner new asked more
-    (subst (λ (p : Place). StepsAt bits (λ a state. after_lookup scene.limits p (entered state)) old mid) at_term enters) walks
+    → Walked E bits zones (target_stretch address context depth t spec purpose) old asked more result
+target_used bits zones address context depth t spec purpose old mid inner asked more place (Err e) at_term enters walks uses = uses
+target_used bits zones address context depth t spec purpose old mid inner asked more place (Ok new) at_term enters walks uses =
+    target_walk bits zones address context depth t spec purpose old mid inner new asked more
+    (subst (λ (p : Place). StepsAt bits (λ a state. after_lookup context.limits p (entered state)) old mid) at_term enters) walks
     (subst (λ (p : Place). StepsWith bits (after_target p purpose) inner old new) at_term uses)
 
 -- the record at a term's target, once its lookup is counted
-abbrev on_target : (ℕ → Address) → Scene → ℕ → ℕ → Counts → List ℕ × Labels → (Counts → Run) → Run
-on_target address scene depth a counts found go = check scene.limits (address a) depth found.0 found.1 counts
+abbrev on_target : (ℕ → Address) → RecordContext → ℕ → ℕ → Counts → List ℕ × Labels → (Counts → Run) → Run
+on_target address context depth a counts found go = check context.limits (address a) depth found.0 found.1 counts
 
-abbrev name_part : (ℕ → Address) → Scene → ℕ → List Piece → ℕ → Counts → (List ℕ × Labels → Run) → Run
-name_part address scene t spec a counts = naming_target (site_at scene (address a)) t spec counts
+abbrev name_part : (ℕ → Address) → RecordContext → ℕ → List Piece → Counts → (List ℕ × Labels → Run) → Run
+name_part address context t spec counts = naming_target (site_of context) t spec counts
 
-pub reached_stopped : {E : Type 0} (bits : ℕ) (zones : Answering) (address : ℕ → Address) (scene : Scene) (depth t : ℕ) (spec : List Piece) (outcome : Outcome) (old : List (Cidr × State)) (asked : List Question) (result : Result (List (Cidr × State)) E)
-    → SomeLive bits old → Settles zones (name_part address scene t spec) asked asked (Err (Ended outcome))
+pub reached_stopped : {E : Type 0} (bits : ℕ) (zones : Answering) (address : ℕ → Address) (context : RecordContext) (depth t : ℕ) (spec : List Piece) (outcome : Outcome) (old : List (Cidr × State)) (asked : List Question) (result : Result (List (Cidr × State)) E)
+    → SomeLive bits old → Settles zones (name_part address context t spec) asked asked (Err (Ended outcome))
     → IfOk result (λ new. StepsAt bits (λ a. after_failure outcome) old new)
-    → Walked E bits zones (reached_stretch address scene depth t spec) old asked asked result
-reached_stopped bits zones address scene depth t spec outcome old asked result live settles fails =
-    stepped bits zones (reached_stretch address scene depth t spec) (λ a. after_failure outcome) old asked result
-    (λ new steps. walks_stopped bits zones (name_part address scene t spec) outcome (on_target address scene depth) old new asked asked settles.0 settles.1 live steps)
+    → Walked E bits zones (reached_stretch address context depth t spec) old asked asked result
+reached_stopped bits zones address context depth t spec outcome old asked result live settles fails =
+    stepped bits zones (reached_stretch address context depth t spec) (λ a. after_failure outcome) old asked result
+    (λ new steps. walks_stopped bits zones (name_part address context t spec) outcome (on_target address context depth) old new asked asked settles.0 settles.1 live steps)
     fails
 
-pub reached_entered : {E : Type 0} (bits : ℕ) (zones : Answering) (address : ℕ → Address) (scene : Scene) (depth t : ℕ) (spec : List Piece) (text domain : List ℕ) (name : Labels) (old : List (Cidr × State)) (asked more : List Question) (result : Result (List (Cidr × State)) E)
-    → SomeLive bits old → Settles {A = List ℕ × Labels} zones (name_part address scene t spec) asked asked (Ok (text, name)) → domain ≡ text
-    → Walked E bits zones (λ a counts go. check scene.limits (address a) depth domain name counts) old asked more result
-    → Walked E bits zones (reached_stretch address scene depth t spec) old asked more result
-reached_entered bits zones address scene depth t spec text domain name old asked more (Err e) live settles same walks = walks
-reached_entered bits zones address scene depth t spec text domain name old asked more (Ok new) live settles same walks =
-    walks_passed bits zones (name_part address scene t spec) (text, name) (on_target address scene depth) old new asked asked more settles.0 settles.1 live
-    (subst (λ (d : List ℕ). Walks bits zones (λ a counts go. check scene.limits (address a) depth d name counts) old new asked more) same walks)
+pub reached_entered : {E : Type 0} (bits : ℕ) (zones : Answering) (address : ℕ → Address) (context : RecordContext) (depth t : ℕ) (spec : List Piece) (text domain : List ℕ) (name : Labels) (old : List (Cidr × State)) (asked more : List Question) (result : Result (List (Cidr × State)) E)
+    → SomeLive bits old → Settles {A = List ℕ × Labels} zones (name_part address context t spec) asked asked (Ok (text, name)) → domain ≡ text
+    → Walked E bits zones (λ a counts go. check context.limits (address a) depth domain name counts) old asked more result
+    → Walked E bits zones (reached_stretch address context depth t spec) old asked more result
+reached_entered bits zones address context depth t spec text domain name old asked more (Err e) live settles same walks = walks
+reached_entered bits zones address context depth t spec text domain name old asked more (Ok new) live settles same walks =
+    walks_passed bits zones (name_part address context t spec) (text, name) (on_target address context depth) old new asked asked more settles.0 settles.1 live
+    (subst (λ (d : List ℕ). Walks bits zones (λ a counts go. check context.limits (address a) depth d name counts) old new asked more) same walks)
 
 -- ---- one term
 
-pub row_walked : {E : Type 0} (bits : ℕ) (zones : Answering) (address : ℕ → Address) (scene : Scene) (depth t : ℕ) (term : Term) (row : List Term) (old : List (Cidr × State)) (asked : List Question) (result : Result (List (Cidr × State)) E)
+pub row_walked : {E : Type 0} (bits : ℕ) (zones : Answering) (address : ℕ → Address) (context : RecordContext) (depth t : ℕ) (term : Term) (row : List Term) (old : List (Cidr × State)) (asked : List Question) (result : Result (List (Cidr × State)) E)
     → row ≡ term ∷ []
-    → IfOk result (λ new. (depth t : ℕ) (asked : List Question) → Walks bits zones (terms_stretch address scene depth t row) old new asked asked)
-    → Walked E bits zones (term_stretch address scene depth t term) old asked asked result
-row_walked bits zones address scene depth t term row old asked (Err e) one h = h
-row_walked bits zones address scene depth t term row old asked (Ok new) one h =
-    subst (λ (terms : List Term). Walks bits zones (terms_stretch address scene depth t terms) old new asked asked) one (h depth t asked)
+    → IfOk result (λ new. (depth t : ℕ) (asked : List Question) → Walks bits zones (terms_stretch address context depth t row) old new asked asked)
+    → Walked E bits zones (term_stretch address context depth t term) old asked asked result
+row_walked bits zones address context depth t term row old asked (Err e) one h = h
+row_walked bits zones address context depth t term row old asked (Ok new) one h =
+    subst (λ (terms : List Term). Walks bits zones (terms_stretch address context depth t terms) old new asked asked) one (h depth t asked)
 
-pub include_walked : {E : Type 0} (bits : ℕ) (zones : Answering) (address : ℕ → Address) (scene : Scene) (depth t : ℕ) (term : Term) (verdict : Verdict) (mechanism : Mechanism) (spec : List Piece) (old : List (Cidr × State)) (asked more : List Question) (result : Result (List (Cidr × State)) E)
+pub include_walked : {E : Type 0} (bits : ℕ) (zones : Answering) (address : ℕ → Address) (context : RecordContext) (depth t : ℕ) (term : Term) (verdict : Verdict) (mechanism : Mechanism) (spec : List Piece) (old : List (Cidr × State)) (asked more : List Question) (result : Result (List (Cidr × State)) E)
     → term ≡ Directive verdict mechanism → mechanism ≡ IncludeOf spec
-    → Walked E bits zones (target_stretch address scene depth t spec (Include verdict)) old asked more result
-    → Walked E bits zones (term_stretch address scene depth t term) old asked more result
-include_walked {E} bits zones address scene depth t term verdict mechanism spec old asked more result is of h =
-    subst (λ (x : Term). Walked E bits zones (term_stretch address scene depth t x) old asked more result) (sym is)
-    (subst (λ (m : Mechanism). Walked E bits zones (term_stretch address scene depth t (Directive verdict m)) old asked more result) (sym of) h)
+    → Walked E bits zones (target_stretch address context depth t spec (Include verdict)) old asked more result
+    → Walked E bits zones (term_stretch address context depth t term) old asked more result
+include_walked {E} bits zones address context depth t term verdict mechanism spec old asked more result is of h =
+    subst (λ (x : Term). Walked E bits zones (term_stretch address context depth t x) old asked more result) (sym is)
+    (subst (λ (m : Mechanism). Walked E bits zones (term_stretch address context depth t (Directive verdict m)) old asked more result) (sym of) h)
 
 pub include_fits : (term : Term) (verdict : Verdict) (mechanism : Mechanism) (spec : List Piece) → term ≡ Directive verdict mechanism → mechanism ≡ IncludeOf spec
     → TermFits term → TargetFits (Some spec)
@@ -115,60 +118,71 @@ fit_at terms i term below fit e = subst (λ (x : Term). TermFits x) (sym e) (the
 
 -- ---- a record
 
-pub redirect_walked : {E : Type 0} (bits : ℕ) (zones : Answering) (address : ℕ → Address) (scene : Scene) (depth t : ℕ) (spec : List Piece) (terms : List Term) (old : List (Cidr × State)) (asked more : List Question) (result : Result (List (Cidr × State)) E)
-    → Some (t, spec) ≡ redirect_from 1 terms → Walked E bits zones (target_stretch address scene depth t spec Redirect) old asked more result
-    → Walked E bits zones (default_stretch address scene depth (redirect_from 1 terms)) old asked more result
-redirect_walked {E} bits zones address scene depth t spec terms old asked more result e h =
-    subst (λ (r : Option (ℕ × List Piece)). Walked E bits zones (default_stretch address scene depth r) old asked more result) e h
+pub redirect_walked : {E : Type 0} (bits : ℕ) (zones : Answering) (address : ℕ → Address) (context : RecordContext) (depth t : ℕ) (spec : List Piece) (terms : List Term) (old : List (Cidr × State)) (asked more : List Question) (result : Result (List (Cidr × State)) E)
+    → Some (t, spec) ≡ redirect_from 1 terms → Walked E bits zones (target_stretch address context depth t spec Redirect) old asked more result
+    → Walked E bits zones (default_stretch address context depth (redirect_from 1 terms)) old asked more result
+redirect_walked {E} bits zones address context depth t spec terms old asked more result e h =
+    subst (λ (r : Option (ℕ × List Piece)). Walked E bits zones (default_stretch address context depth r) old asked more result) e h
 
-pub neutral_walked : {E : Type 0} (bits : ℕ) (zones : Answering) (address : ℕ → Address) (scene : Scene) (depth : ℕ) (terms : List Term) (old : List (Cidr × State)) (asked : List Question) (result : Result (List (Cidr × State)) E)
+pub neutral_walked : {E : Type 0} (bits : ℕ) (zones : Answering) (address : ℕ → Address) (context : RecordContext) (depth : ℕ) (terms : List Term) (old : List (Cidr × State)) (asked : List Question) (result : Result (List (Cidr × State)) E)
     → None ≡ redirect_from 1 terms → IfOk result (λ new. StepsAt bits (λ a. after_match Neutral true) old new)
-    → Walked E bits zones (default_stretch address scene depth (redirect_from 1 terms)) old asked asked result
-neutral_walked {E} bits zones address scene depth terms old asked result e h =
-    subst (λ (r : Option (ℕ × List Piece)). Walked E bits zones (default_stretch address scene depth r) old asked asked result) e
-    (stepped bits zones (default_stretch address scene depth None) (λ a. after_match Neutral true) old asked result
-    (λ new steps. walks_by_steps bits zones (default_stretch address scene depth None) (λ a. after_match Neutral true) old new asked
+    → Walked E bits zones (default_stretch address context depth (redirect_from 1 terms)) old asked asked result
+neutral_walked {E} bits zones address context depth terms old asked result e h =
+    subst (λ (r : Option (ℕ × List Piece)). Walked E bits zones (default_stretch address context depth r) old asked asked result) e
+    (stepped bits zones (default_stretch address context depth None) (λ a. after_match Neutral true) old asked result
+    (λ new steps. walks_by_steps bits zones (default_stretch address context depth None) (λ a. after_match Neutral true) old new asked
     (λ a s. match_moves zones asked Neutral true s) steps) h)
 
-pub too_deep : {E : Type 0} (bits : ℕ) (zones : Answering) (address : ℕ → Address) (scene : Scene) (depth : ℕ) (place : Place) (old : List (Cidr × State)) (asked : List Question) (result : Result (List (Cidr × State)) E)
-    → depth ≡ 0 → place ≡ record { name = scene.name.now; term = 0 } → IfOk result (λ new. StepsAt bits (λ a. after_failure (Perm cause.Lookups place)) old new)
-    → Walked E bits zones (record_stretch address scene depth) old asked asked result
-too_deep {E} bits zones address scene depth place old asked result none at_term h =
-    subst (λ (d : ℕ). Walked E bits zones (record_stretch address scene d) old asked asked result) (sym none)
-    (stepped bits zones (record_stretch address scene 0) (λ a. after_failure (Perm cause.Lookups (record { name = scene.name.now; term = 0 }))) old asked result
-    (λ new steps. walks_by_steps bits zones (record_stretch address scene 0) (λ a. after_failure (Perm cause.Lookups (record { name = scene.name.now; term = 0 }))) old new asked
-    (λ a s. failure_moves zones asked (Perm cause.Lookups (record { name = scene.name.now; term = 0 })) s tt) steps)
+pub too_deep : {E : Type 0} (bits : ℕ) (zones : Answering) (address : ℕ → Address) (context : RecordContext) (depth : ℕ) (place : Place) (old : List (Cidr × State)) (asked : List Question) (result : Result (List (Cidr × State)) E)
+    → depth ≡ 0 → place ≡ record { name = context.name.now; term = 0 } → IfOk result (λ new. StepsAt bits (λ a. after_failure (Perm cause.Lookups place)) old new)
+    → Walked E bits zones (record_stretch address context depth) old asked asked result
+too_deep {E} bits zones address context depth place old asked result none at_term h =
+    subst (λ (d : ℕ). Walked E bits zones (record_stretch address context d) old asked asked result) (sym none)
+    (stepped bits zones (record_stretch address context 0) (λ a. after_failure (Perm cause.Lookups (record { name = context.name.now; term = 0 }))) old asked result
+    (λ new steps. walks_by_steps bits zones (record_stretch address context 0) (λ a. after_failure (Perm cause.Lookups (record { name = context.name.now; term = 0 }))) old new asked
+    (λ a s. failure_moves zones asked (Perm cause.Lookups (record { name = context.name.now; term = 0 })) s tt) steps)
     (subst (λ (p : Place). IfOk result (λ new. StepsAt bits (λ a. after_failure (Perm cause.Lookups p)) old new)) at_term h))
 
 -- what a record comes to once it is found
-abbrev on_record : (ℕ → Address) → Scene → ℕ → ℕ → Counts → List Term → (Counts → Run) → Run
-on_record address scene depth a counts terms go = evaluated (site_at scene (address a)) (check scene.limits (address a) depth) terms counts
+abbrev on_record : (ℕ → Address) → RecordContext → ℕ → ℕ → Counts → List Term → (Counts → Run) → Run
+on_record address context depth a counts terms go = evaluated (site_of context) (address a) (check context.limits (address a) depth) terms counts
 
-abbrev find_part : Scene → ℕ → Counts → (List Term → Run) → Run
-find_part scene a counts = with_record scene.name.now counts
+abbrev find_part : RecordContext → Counts → (List Term → Run) → Run
+find_part context counts = with_record context.name.now counts
 
 below_depth : (depth : ℕ) → (depth ≡ 0 → ⊥) → suc (depth - 1) ≡ depth
 below_depth zero h = absurd (h refl)
 below_depth (suc depth) h = omega arith
 
-pub record_stopped : {E : Type 0} (bits : ℕ) (zones : Answering) (address : ℕ → Address) (scene : Scene) (depth : ℕ) (outcome : Outcome) (old : List (Cidr × State)) (asked more : List Question) (result : Result (List (Cidr × State)) E)
-    → (depth ≡ 0 → ⊥) → SomeLive bits old → Settles zones (find_part scene) asked more (Err (Ended outcome))
-    → IfOk result (λ new. StepsAt bits (λ a. after_failure outcome) old new)
-    → Walked E bits zones (record_stretch address scene depth) old asked more result
-record_stopped bits zones address scene depth outcome old asked more (Err e) deep live settles h = h
-record_stopped bits zones address scene depth outcome old asked more (Ok new) deep live settles h =
-    subst (λ (d : ℕ). Walks bits zones (record_stretch address scene d) old new asked more) (below_depth depth deep)
-    (walks_stopped bits zones (find_part scene) outcome (on_record address scene (depth - 1)) old new asked more settles.0 settles.1 live h)
+-- a check is of the address's family
+of_family : (bits : ℕ) (zones : Answering) (address : ℕ → Address) (context : RecordContext) (depth : ℕ) (old new : List (Cidr × State)) (asked more : List Question)
+    → ((a : ℕ) → family_of (address a) ≡ context.family) → Walks bits zones (after_part (find_part context) (on_record address context depth)) old new asked more
+    → Walks bits zones (record_stretch address context (suc depth)) old new asked more
+of_family bits zones address context depth old new asked more same =
+    walks_alike bits zones (record_stretch address context (suc depth)) (after_part (find_part context) (on_record address context depth)) old new asked more
+    (λ a c go. ap (λ (family : Family). with_record context.name.now c
+    (λ terms. evaluated (record (site_of context) { family = family }) (address a) (check context.limits (address a) depth) terms c)) (same a))
 
-pub record_walked : {E : Type 0} (bits : ℕ) (zones : Answering) (address : ℕ → Address) (scene : Scene) (depth : ℕ) (terms first next : List Term) (old mid : List (Cidr × State)) (asked found between more : List Question) (result : Result (List (Cidr × State)) E)
-    → (depth ≡ 0 → ⊥) → SomeLive bits old → Settles zones (find_part scene) asked found (Ok terms) → first ≡ terms → next ≡ terms
-    → Walks bits zones (terms_stretch address scene (depth - 1) 1 first) old mid found between
-    → Walked E bits zones (default_stretch address scene (depth - 1) (redirect_from 1 next)) mid between more result
-    → Walked E bits zones (record_stretch address scene depth) old asked more result
-record_walked bits zones address scene depth terms first next old mid asked found between more (Err e) deep live settles same alike tried default = default
-record_walked bits zones address scene depth terms first next old mid asked found between more (Ok new) deep live settles same alike tried default =
-    subst (λ (d : ℕ). Walks bits zones (record_stretch address scene d) old new asked more) (below_depth depth deep)
-    (walks_passed bits zones (find_part scene) terms (on_record address scene (depth - 1)) old new asked found more settles.0 settles.1 live
-    (walks_twice bits zones (terms_stretch address scene (depth - 1) 1 terms) (default_stretch address scene (depth - 1) (redirect_from 1 terms)) old mid new found between more
-    (subst (λ (xs : List Term). Walks bits zones (terms_stretch address scene (depth - 1) 1 xs) old mid found between) same tried)
-    (subst (λ (xs : List Term). Walks bits zones (default_stretch address scene (depth - 1) (redirect_from 1 xs)) mid new between more) alike default)))
+pub record_stopped : {E : Type 0} (bits : ℕ) (zones : Answering) (address : ℕ → Address) (context : RecordContext) (depth : ℕ) (outcome : Outcome) (old : List (Cidr × State)) (asked more : List Question) (result : Result (List (Cidr × State)) E)
+    → ((a : ℕ) → family_of (address a) ≡ context.family) → (depth ≡ 0 → ⊥) → SomeLive bits old → Settles zones (find_part context) asked more (Err (Ended outcome))
+    → IfOk result (λ new. StepsAt bits (λ a. after_failure outcome) old new)
+    → Walked E bits zones (record_stretch address context depth) old asked more result
+record_stopped bits zones address context depth outcome old asked more (Err e) family deep live settles h = h
+record_stopped bits zones address context depth outcome old asked more (Ok new) family deep live settles h =
+    subst (λ (d : ℕ). Walks bits zones (record_stretch address context d) old new asked more) (below_depth depth deep)
+    (of_family bits zones address context (depth - 1) old new asked more family
+    (walks_stopped bits zones (find_part context) outcome (on_record address context (depth - 1)) old new asked more settles.0 settles.1 live h))
+
+pub record_walked : {E : Type 0} (bits : ℕ) (zones : Answering) (address : ℕ → Address) (context : RecordContext) (depth : ℕ) (terms first next : List Term) (old mid : List (Cidr × State)) (asked found between more : List Question) (result : Result (List (Cidr × State)) E)
+    → ((a : ℕ) → family_of (address a) ≡ context.family) → (depth ≡ 0 → ⊥) → SomeLive bits old → Settles zones (find_part context) asked found (Ok terms) → first ≡ terms → next ≡ terms
+    → Walks bits zones (terms_stretch address context (depth - 1) 1 first) old mid found between
+    → Walked E bits zones (default_stretch address context (depth - 1) (redirect_from 1 next)) mid between more result
+    → Walked E bits zones (record_stretch address context depth) old asked more result
+record_walked bits zones address context depth terms first next old mid asked found between more (Err e) family deep live settles same alike tried default = default
+record_walked bits zones address context depth terms first next old mid asked found between more (Ok new) family deep live settles same alike tried default =
+    subst (λ (d : ℕ). Walks bits zones (record_stretch address context d) old new asked more) (below_depth depth deep)
+    (of_family bits zones address context (depth - 1) old new asked more family
+    (walks_passed bits zones (find_part context) terms (on_record address context (depth - 1)) old new asked found more settles.0 settles.1 live
+    (walks_twice bits zones (terms_stretch address context (depth - 1) 1 terms) (default_stretch address context (depth - 1) (redirect_from 1 terms)) old mid new found between more
+    (subst (λ (xs : List Term). Walks bits zones (terms_stretch address context (depth - 1) 1 xs) old mid found between) same tried)
+    (subst (λ (xs : List Term). Walks bits zones (default_stretch address context (depth - 1) (redirect_from 1 xs)) mid new between more) alike default))))

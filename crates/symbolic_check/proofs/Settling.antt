@@ -1,4 +1,4 @@
--- Parts that every address has alike, one after the other and before a walk.
+-- Parts that every address has alike, before a walk.
 use Rattle.std.proofs.Common.{◌≡◌, ℕ, true, false, List, refl, sym, subst, inl, inr, Option, Some, None, IsSomeAnd}
 use Rattle.std.proofs.lemmas.Bool.{true≢false}
 use Rattle.addr_bits.specs.Prefix.{Cidr}
@@ -11,90 +11,22 @@ use Rattle.symbolic_check.specs.declared.state.State.{State}
 use Rattle.symbolic_check.specs.declared.state.State.TheVariants.{Live, Decided, Failed}
 use Rattle.symbolic_check.specs.Steps.{is_live, after_failure}
 use Rattle.symbolic_check.specs.Walk.{Stretch, Moves, Walks, SomeLive, NoneLive, StepsAt}
-use Rattle.symbolic_check.specs.Settling.{PartOf, Passes, Stops, Adds}
-use Rattle.symbolic_check.proofs.Following.{follows_twice, follows_more}
+use Rattle.spf_model.specs.Settling.{PartOf, Passes, Stops, Adds}
+use Rattle.spf_model.proofs.Following.{follows_twice, follows_more}
 use Rattle.symbolic_check.proofs.Walking.{Within, leaves_twice}
-
--- ---- parts one after the other
-
--- a part, and then what goes on with what it hands on
-abbrev pub then_part : {A B : Type 0} → PartOf A → (A → PartOf B) → PartOf B
-then_part {A} first next a counts go = first a counts (λ (x : A). next x a counts go)
-
-pub passes_more : {A : Type 0} (zones : Answering) (asked more : List Question) (part : PartOf A) (x : A)
-    → Within asked more → Passes zones asked part x → Passes zones more part x
-passes_more zones asked more part x within passes = λ a counts go. follows_more zones asked more (part a counts go) (go x) within (passes a counts go)
-
-pub stops_more : {A : Type 0} (zones : Answering) (asked more : List Question) (part : PartOf A) (outcome : Outcome)
-    → Within asked more → Stops zones asked part outcome → Stops zones more part outcome
-stops_more zones asked more part outcome within stops =
-    (stops.0, λ a counts go. follows_more zones asked more (part a counts go) (Ends outcome counts) within (stops.1 a counts go))
-
--- both pass
-pub passes_twice : {A B : Type 0} (zones : Answering) (mid more : List Question) (first : PartOf A) (next : A → PartOf B) (x : A) (y : B)
-    → Within mid more → Passes zones mid first x → Passes zones more (next x) y → Passes zones more (then_part first next) y
-passes_twice {A} zones mid more first next x y within f g = λ a counts go.
-    follows_twice zones more (first a counts (λ (z : A). next z a counts go)) (next x a counts go) (go y)
-    (follows_more zones mid more (first a counts (λ (z : A). next z a counts go)) (next x a counts go) within (f a counts (λ (z : A). next z a counts go)))
-    (g a counts go)
-
--- the second one stops
-pub stops_next : {A B : Type 0} (zones : Answering) (mid more : List Question) (first : PartOf A) (next : A → PartOf B) (x : A) (outcome : Outcome)
-    → Within mid more → Passes zones mid first x → Stops zones more (next x) outcome → Stops zones more (then_part first next) outcome
-stops_next {A} zones mid more first next x outcome within f g = (
-  g.0,
-  λ a counts go.
-      follows_twice zones more (first a counts (λ (z : A). next z a counts go)) (next x a counts go) (Ends outcome counts)
-      (follows_more zones mid more (first a counts (λ (z : A). next z a counts go)) (next x a counts go) within (f a counts (λ (z : A). next z a counts go)))
-      (g.1 a counts go),
-)
-
--- the first one stops
-pub stops_first : {A B : Type 0} (zones : Answering) (asked : List Question) (first : PartOf A) (next : A → PartOf B) (outcome : Outcome)
-    → Stops zones asked first outcome → Stops zones asked (then_part first next) outcome
-stops_first {A} zones asked first next outcome f = (f.0, λ a counts go. f.1 a counts (λ (z : A). next z a counts go))
-
--- nothing is added
-pub adds_none : {A : Type 0} (zones : Answering) (part : PartOf A) (asked : List Question) → Adds zones part asked asked
-adds_none zones part asked = record { kept = λ q h. h; only = λ q h. inl h }
-
--- the first one alone adds
-pub adds_first : {A B : Type 0} (zones : Answering) (asked mid : List Question) (first : PartOf A) (next : A → PartOf B)
-    → Adds zones first asked mid → Adds zones (then_part first next) asked mid
-adds_first {A} zones asked mid first next f = record {
-  kept = f.kept;
-  only = λ q h. elim (f.only q h) [
-    | inl here ↦ inl here
-    | inr by ↦ inr (λ a counts go. by a counts (λ (z : A). next z a counts go))
-  ];
-}
-
--- both add
-pub adds_twice : {A B : Type 0} (zones : Answering) (asked mid more : List Question) (first : PartOf A) (next : A → PartOf B) (x : A)
-    → Passes zones mid first x → Adds zones first asked mid → Adds zones (next x) mid more → Adds zones (then_part first next) asked more
-adds_twice {A} zones asked mid more first next x passes f g = record {
-  kept = λ q h. g.kept q (f.kept q h);
-  only = λ q h. elim (g.only q h) [
-    | inl here ↦ elim (f.only q here) [
-      | inl there ↦ inl there
-      | inr by ↦ inr (λ a counts go. by a counts (λ (z : A). next z a counts go))
-    ]
-    | inr by ↦ inr (λ a counts go. (passes a counts (λ (z : A). next z a counts go)).asks q (by a counts go))
-  ];
-}
 
 -- ---- a part before a walk
 
 -- what goes on at an address with what a part hands on
 abbrev pub after_part : {A : Type 0} → PartOf A → (ℕ → Counts → A → (Counts → Run) → Run) → ℕ → Stretch
-after_part {A} part next a counts go = part a counts (λ (x : A). next a counts x go)
+after_part {A} part next a counts go = part counts (λ (x : A). next a counts x go)
 
 passed_moves : {A : Type 0} (zones : Answering) (asked more : List Question) (part : PartOf A) (x : A) (next : ℕ → Counts → A → (Counts → Run) → Run) (a : ℕ)
     → Within asked more → Passes zones asked part x → (old new : State)
     → Moves zones more (λ counts go. next a counts x go) old new → Moves zones more (after_part part next a) old new
 passed_moves {A} zones asked more part x next a within passes (Live c) new h =
     leaves_twice zones more (after_part part next a c) (λ go. next a c x go) new
-    (λ go. follows_more zones asked more (part a c (λ (y : A). next a c y go)) (next a c x go) within (passes a c (λ (y : A). next a c y go))) h
+    (λ go. follows_more zones asked more (part c (λ (y : A). next a c y go)) (next a c x go) within (passes c (λ (y : A). next a c y go))) h
 passed_moves zones asked more part x next a within passes (Decided v c) new h = h
 passed_moves zones asked more part x next a within passes (Failed o) new h = h
 
@@ -111,7 +43,7 @@ pub walks_passed : {A : Type 0} (bits : ℕ) (zones : Answering) (part : PartOf 
     (old new : List (Cidr × State)) (asked mid more : List Question)
     → Passes zones mid part x → Adds zones part asked mid → SomeLive bits old
     → Walks bits zones (λ a counts go. next a counts x go) old new mid more
-    → Walks bits zones (λ a counts go. part a counts (λ y. next a counts y go)) old new asked more
+    → Walks bits zones (λ a counts go. part counts (λ y. next a counts y go)) old new asked more
 walks_passed {A} bits zones part x next old new asked mid more passes adds live walks = record {
   each = λ a below. passed_stands zones mid more part x next a walks.kept passes (value_at bits old a) (value_at bits new a) (walks.each a below);
   kept = λ q h. walks.kept q (adds.kept q h);
@@ -123,7 +55,7 @@ walks_passed {A} bits zones part x next old new asked mid more passes adds live 
         counts = live.1;
         within = live.2;
         live = live.3;
-        asks = λ go. by live.0 live.1 (λ (y : A). next live.0 live.1 y go);
+        asks = λ go. by live.1 (λ (y : A). next live.0 live.1 y go);
       })
     ]
     | inr by ↦ inr (record {
@@ -131,14 +63,14 @@ walks_passed {A} bits zones part x next old new asked mid more passes adds live 
       counts = by.counts;
       within = by.within;
       live = by.live;
-      asks = λ go. (passes by.address by.counts (λ (y : A). next by.address by.counts y go)).asks q (by.asks go);
+      asks = λ go. (passes by.counts (λ (y : A). next by.address by.counts y go)).asks q (by.asks go);
     })
   ];
 }
 
 stopped_moves : {A : Type 0} (zones : Answering) (asked : List Question) (part : PartOf A) (outcome : Outcome) (next : ℕ → Counts → A → (Counts → Run) → Run) (a : ℕ)
     → Stops zones asked part outcome → (old : State) → Moves zones asked (after_part part next a) old (after_failure outcome old)
-stopped_moves {A} zones asked part outcome next a stops (Live c) = (stops.0, λ go. (c, stops.1 a c (λ (y : A). next a c y go)))
+stopped_moves {A} zones asked part outcome next a stops (Live c) = (stops.0, λ go. (c, stops.1 c (λ (y : A). next a c y go)))
 stopped_moves zones asked part outcome next a stops (Decided v c) = refl
 stopped_moves zones asked part outcome next a stops (Failed o) = refl
 
@@ -153,7 +85,7 @@ stopped_stands zones asked part outcome next a stops (Some s) new h =
 pub walks_stopped : {A : Type 0} (bits : ℕ) (zones : Answering) (part : PartOf A) (outcome : Outcome) (next : ℕ → Counts → A → (Counts → Run) → Run)
     (old new : List (Cidr × State)) (asked mid : List Question)
     → Stops zones mid part outcome → Adds zones part asked mid → SomeLive bits old → StepsAt bits (λ a. after_failure outcome) old new
-    → Walks bits zones (λ a counts go. part a counts (λ y. next a counts y go)) old new asked mid
+    → Walks bits zones (λ a counts go. part counts (λ y. next a counts y go)) old new asked mid
 walks_stopped {A} bits zones part outcome next old new asked mid stops adds live steps = record {
   each = λ a below. stopped_stands zones mid part outcome next a stops (value_at bits old a) (value_at bits new a) (steps a below);
   kept = adds.kept;
@@ -164,7 +96,7 @@ walks_stopped {A} bits zones part outcome next old new asked mid stops adds live
       counts = live.1;
       within = live.2;
       live = live.3;
-      asks = λ go. by live.0 live.1 (λ (y : A). next live.0 live.1 y go);
+      asks = λ go. by live.1 (λ (y : A). next live.0 live.1 y go);
     })
   ];
 }

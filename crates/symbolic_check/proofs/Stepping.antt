@@ -3,6 +3,7 @@ use Rattle.std.proofs.Common.{◌≡◌, ℕ, ◌+◌, Bool, true, false, cond, 
 use Rattle.std.proofs.lemmas.Bool.{both_ways, and_parts}
 use Rattle.std.specs.Prelude.{nat_le}
 use Rattle.std.specs.List.{list_all}
+use Rattle.addr_bits.specs.declared.address.Address.{Address}
 use Rattle.zone_answers.specs.declared.answer.Question.{Question}
 use Rattle.spf_grammar.specs.declared.verdict.Verdict.{Verdict}
 use Rattle.spf_grammar.specs.declared.policy.Mechanism.{Mechanism}
@@ -22,7 +23,7 @@ use Rattle.symbolic_check.specs.declared.state.State.TheVariants.{Live, Decided,
 use Rattle.symbolic_check.specs.Steps.{after_lookup, after_void, after_match, after_failure, after_networks}
 use Rattle.symbolic_check.specs.Walk.{Leaves, Moves}
 use Rattle.symbolic_check.specs.Networks.{is_network, is_row_term, network_covers, first_network}
-use Rattle.symbolic_check.proofs.Following.{follows_itself}
+use Rattle.spf_model.proofs.Following.{follows_itself}
 use Rattle.symbolic_check.proofs.Walking.{leaves_same}
 
 -- a count that must be within the limit
@@ -68,53 +69,53 @@ failure_moves zones asked outcome (Decided v c) none = refl
 failure_moves zones asked outcome (Failed o) none = refl
 
 -- a network goes on with whether it covers the address
-judge_network : (site : Site) (sub : Sub) (t : ℕ) (m : Mechanism) (counts : Counts) (go : Bool → Counts → Run) → is_network m ≡ true
-    → judge site sub t m counts go ≡ go (network_covers m site.address) counts
-judge_network site sub t (Ip4 p) counts go h = refl
-judge_network site sub t (Ip6 p) counts go h = refl
-judge_network site sub t All counts go h = refl
-judge_network site sub t (Include spec) counts go h = absurd (both_ways false refl h)
-judge_network site sub t (A spec l m) counts go h = absurd (both_ways false refl h)
-judge_network site sub t (Mx spec l m) counts go h = absurd (both_ways false refl h)
-judge_network site sub t (Ptr spec) counts go h = absurd (both_ways false refl h)
-judge_network site sub t (Exists spec) counts go h = absurd (both_ways false refl h)
+judge_network : (site : Site) (a : Address) (sub : Sub) (t : ℕ) (m : Mechanism) (counts : Counts) (go : Bool → Counts → Run) → is_network m ≡ true
+    → judge site a sub t m counts go ≡ go (network_covers m a) counts
+judge_network site a sub t (Ip4 p) counts go h = refl
+judge_network site a sub t (Ip6 p) counts go h = refl
+judge_network site a sub t All counts go h = refl
+judge_network site a sub t (Include spec) counts go h = absurd (both_ways false refl h)
+judge_network site a sub t (A spec l m) counts go h = absurd (both_ways false refl h)
+judge_network site a sub t (Mx spec l m) counts go h = absurd (both_ways false refl h)
+judge_network site a sub t (Ptr spec) counts go h = absurd (both_ways false refl h)
+judge_network site a sub t (Exists spec) counts go h = absurd (both_ways false refl h)
 
 -- a row of networks leaves what the first one that has the address makes of it
-networks_leave : (zones : Answering) (asked : List Question) (site : Site) (sub : Sub) (t : ℕ) (networks : List Term) (counts : Counts)
+networks_leave : (zones : Answering) (asked : List Question) (site : Site) (a : Address) (sub : Sub) (t : ℕ) (networks : List Term) (counts : Counts)
     → list_all is_row_term networks ≡ true
-    → Leaves zones asked (tried (judge site sub) t networks counts) (after_networks (first_network networks site.address) (Live counts))
-networks_leave zones asked site sub t [] counts h = λ go. follows_itself zones asked (go counts)
-networks_leave zones asked site sub t (Directive verdict m ∷ networks) counts h =
+    → Leaves zones asked (tried (judge site a sub) t networks counts) (after_networks (first_network networks a) (Live counts))
+networks_leave zones asked site a sub t [] counts h = λ go. follows_itself zones asked (go counts)
+networks_leave zones asked site a sub t (Directive verdict m ∷ networks) counts h =
     let split = and_parts (is_network m) (list_all is_row_term networks) h in
-    leaves_same zones asked (tried (judge site sub) t (Directive verdict m ∷ networks) counts)
-    (λ go. unless_matched verdict (rest go) (network_covers m site.address) counts)
-    (after_networks (first_network (Directive verdict m ∷ networks) site.address) (Live counts))
-    (λ go. judge_network site sub t m counts (unless_matched verdict (rest go)) split.0)
-    (by_test (networks_leave zones asked site sub (term_after t) networks counts split.1) (network_covers m site.address))
+    leaves_same zones asked (tried (judge site a sub) t (Directive verdict m ∷ networks) counts)
+    (λ go. unless_matched verdict (rest go) (network_covers m a) counts)
+    (after_networks (first_network (Directive verdict m ∷ networks) a) (Live counts))
+    (λ go. judge_network site a sub t m counts (unless_matched verdict (rest go)) split.0)
+    (by_test (networks_leave zones asked site a sub (term_after t) networks counts split.1) (network_covers m a))
   where
     rest : (Counts → Run) → Counts → Run
-    rest go counts = tried (judge site sub) (term_after t) networks counts go
+    rest go counts = tried (judge site a sub) (term_after t) networks counts go
 
-    by_test : Leaves zones asked (tried (judge site sub) (term_after t) networks counts) (after_networks (first_network networks site.address) (Live counts))
+    by_test : Leaves zones asked (tried (judge site a sub) (term_after t) networks counts) (after_networks (first_network networks a) (Live counts))
         → (b : Bool)
-        → Leaves zones asked (λ go. unless_matched verdict (rest go) b counts) (after_networks (cond b (Some verdict) (first_network networks site.address)) (Live counts))
+        → Leaves zones asked (λ go. unless_matched verdict (rest go) b counts) (after_networks (cond b (Some verdict) (first_network networks a)) (Live counts))
     by_test below true = λ go. follows_itself zones asked (Ends (Is verdict) counts)
     by_test below false = below
-networks_leave zones asked site sub t (Redirect spec ∷ networks) counts h = networks_leave zones asked site sub (term_after t) networks counts h
-networks_leave zones asked site sub t (Exp spec ∷ networks) counts h = networks_leave zones asked site sub (term_after t) networks counts h
-networks_leave zones asked site sub t (Unknown name value ∷ networks) counts h = networks_leave zones asked site sub (term_after t) networks counts h
+networks_leave zones asked site a sub t (Redirect spec ∷ networks) counts h = networks_leave zones asked site a sub (term_after t) networks counts h
+networks_leave zones asked site a sub t (Exp spec ∷ networks) counts h = networks_leave zones asked site a sub (term_after t) networks counts h
+networks_leave zones asked site a sub t (Unknown name value ∷ networks) counts h = networks_leave zones asked site a sub (term_after t) networks counts h
 
 -- so a row of networks moves every state
-pub networks_move : (zones : Answering) (asked : List Question) (site : Site) (sub : Sub) (t : ℕ) (networks : List Term) (state : State)
+pub networks_move : (zones : Answering) (asked : List Question) (site : Site) (a : Address) (sub : Sub) (t : ℕ) (networks : List Term) (state : State)
     → list_all is_row_term networks ≡ true
-    → Moves zones asked (tried (judge site sub) t networks) state (after_networks (first_network networks site.address) state)
-networks_move zones asked site sub t networks (Live c) h = networks_leave zones asked site sub t networks c h
-networks_move zones asked site sub t networks (Decided v c) h = stays (first_network networks site.address)
+    → Moves zones asked (tried (judge site a sub) t networks) state (after_networks (first_network networks a) state)
+networks_move zones asked site a sub t networks (Live c) h = networks_leave zones asked site a sub t networks c h
+networks_move zones asked site a sub t networks (Decided v c) h = stays (first_network networks a)
   where
     stays : (found : Option Verdict) → after_networks found (Decided v c) ≡ Decided v c
     stays None = refl
     stays (Some w) = refl
-networks_move zones asked site sub t networks (Failed o) h = stays (first_network networks site.address)
+networks_move zones asked site a sub t networks (Failed o) h = stays (first_network networks a)
   where
     stays : (found : Option Verdict) → after_networks found (Failed o) ≡ Failed o
     stays None = refl

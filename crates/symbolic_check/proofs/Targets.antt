@@ -23,7 +23,7 @@ use Rattle.spf_model.specs.declared.outcome.Counts.{Counts}
 use Rattle.spf_model.specs.declared.outcome.Outcome.{Outcome}
 use Rattle.spf_model.specs.declared.outcome.Outcome.TheVariants.{Nothing, Is, Perm, Temp, Unsettled}
 use Rattle.spf_model.specs.Run.{Run, Ends, Answering, then_do}
-use Rattle.spf_model.specs.Judging.{Labels, Site, Sub, at, family_of, is_pass, go_if, counted, name_of, with_text, with_target, with_name, with_domain, with_verdict, judged_by}
+use Rattle.spf_model.specs.Judging.{Labels, Site, Sub, at, is_pass, go_if, counted, name_of, with_text, with_target, with_name, with_domain, with_verdict, judged_by}
 use Rattle.spf_model.specs.Check.{check, unless_matched}
 use Rattle.spf_model.specs.Leads.{NoVerdict}
 use Rattle.spf_model.proofs.RunLaws.{asks_first, one_end}
@@ -32,11 +32,12 @@ use Rattle.symbolic_check.specs.declared.state.State.TheVariants.{Live, Decided,
 use Rattle.symbolic_check.specs.declared.state.Purpose.{Purpose}
 use Rattle.symbolic_check.specs.declared.state.Purpose.TheVariants.{Include, Redirect}
 use Rattle.symbolic_check.specs.Steps.{entered, after_lookup, used, from_target, after_target, required}
-use Rattle.symbolic_check.specs.Walk.{Follows, Leaves, Stretch, Moves, Walks, StepsAt, StepsWith}
-use Rattle.symbolic_check.specs.declared.scene.Scene.{Scene}
-use Rattle.symbolic_check.specs.Settling.{site_at}
-use Rattle.symbolic_check.specs.Scenes.{goes_on, reached_stretch, target_stretch}
-use Rattle.symbolic_check.proofs.Following.{follows_itself, follows_twice, follows_within}
+use Rattle.spf_model.specs.Settling.{Follows}
+use Rattle.symbolic_check.specs.Walk.{Leaves, Stretch, Moves, Walks, StepsAt, StepsWith}
+use Rattle.spf_model.specs.declared.context.RecordContext.{RecordContext}
+use Rattle.spf_model.specs.Leads.{site_of}
+use Rattle.symbolic_check.specs.Stretches.{goes_on, reached_stretch, target_stretch}
+use Rattle.spf_model.proofs.Following.{follows_itself, follows_twice, follows_within}
 use Rattle.symbolic_check.proofs.Walking.{leaves_twice, walks_twice, walks_by_steps, walks_alike}
 use Rattle.symbolic_check.proofs.Stepping.{lookup_moves}
 
@@ -108,7 +109,7 @@ target_judged site sub t spec counts go =
     limit_judged site t go cause.Lookups (at site t) (nat_le more.lookups site.limits.lookups) more
     (λ c. with_target site t c (Some spec) (λ text. with_name (Perm cause.Missing (at site t)) c (name_of text) (λ name. sub text name c)))
     (λ c. with_target site t c (Some spec) (λ text. with_name (Perm cause.Missing (at site t)) c (name_of text) (λ name. then_do (sub text name c) (judged_by site t go))))
-    (text_judged site t go more (target (family_of site.address) site.domain spec)
+    (text_judged site t go more (target site.family site.domain spec)
     (λ text. with_name (Perm cause.Missing (at site t)) more (name_of text) (λ name. sub text name more))
     (λ text. with_name (Perm cause.Missing (at site t)) more (name_of text) (λ name. then_do (sub text name more) (judged_by site t go)))
     (λ text. name_judged site t go cause.Missing (at site t) more (name_of text) (λ name. sub text name more) (λ name. then_do (sub text name more) (judged_by site t go)) (λ name. refl)))
@@ -160,12 +161,12 @@ live_before_entry None within c e h = absurd e
 live_before_entry (Some s) within c e h = entered_live s c (subst (λ w. w ≡ Some (Live c)) e h)
 
 -- a walk over the record that a term asks for, with the states that enter it, is a walk over what the term makes of it
-judged_walk : (bits : ℕ) (zones : Answering) (address : ℕ → Address) (scene : Scene) (t : ℕ) (purpose : Purpose) (run : ℕ → Counts → Run) (old within inner new : List (Cidr × State)) (asked more : List Question)
+judged_walk : (bits : ℕ) (zones : Answering) (address : ℕ → Address) (context : RecordContext) (t : ℕ) (purpose : Purpose) (run : ℕ → Counts → Run) (old within inner new : List (Cidr × State)) (asked more : List Question)
     → StepsAt bits (λ a. entered) old within → Walks bits zones (λ a counts go. run a counts) within inner asked more
-    → StepsWith bits (after_target (record { name = scene.name.now; term = t }) purpose) inner old new
-    → Walks bits zones (λ a. judged (site_at scene (address a)) t purpose (run a)) old new asked more
-judged_walk bits zones address scene t purpose run old within inner new asked more enters walks uses = record {
-  each = λ a below. judged_stands zones more (site_at scene (address a)) t purpose (run a) (value_at bits old a) (value_at bits within a) (value_at bits inner a) (value_at bits new a)
+    → StepsWith bits (after_target (record { name = context.name.now; term = t }) purpose) inner old new
+    → Walks bits zones (λ a. judged (site_of context) t purpose (run a)) old new asked more
+judged_walk bits zones address context t purpose run old within inner new asked more enters walks uses = record {
+  each = λ a below. judged_stands zones more (site_of context) t purpose (run a) (value_at bits old a) (value_at bits within a) (value_at bits inner a) (value_at bits new a)
       (enters a below) (walks.each a below) (uses a below);
   kept = walks.kept;
   only = λ q h. elim (walks.only q h) [
@@ -175,7 +176,7 @@ judged_walk bits zones address scene t purpose run old within inner new asked mo
       counts = by.counts;
       within = by.within;
       live = live_before_entry (value_at bits old by.address) (value_at bits within by.address) by.counts (enters by.address by.within) by.live;
-      asks = λ go. asks_first zones (run by.address by.counts) (judged_by (site_at scene (address by.address)) t (goes_on purpose go)) q (by.asks go);
+      asks = λ go. asks_first zones (run by.address by.counts) (judged_by (site_of context) t (goes_on purpose go)) q (by.asks go);
     })
   ];
 }
@@ -202,30 +203,30 @@ counts_at : (limits : Limits) (place : Place) (old new : Option State) → IsSom
 counts_at limits place None new h = h
 counts_at limits place (Some s) new h = h
 
-pub target_walk : (bits : ℕ) (zones : Answering) (address : ℕ → Address) (scene : Scene) (depth t : ℕ) (spec : List Piece) (purpose : Purpose) (old mid inner new : List (Cidr × State)) (asked more : List Question)
-    → StepsAt bits (λ a state. after_lookup scene.limits (record { name = scene.name.now; term = t }) (entered state)) old mid
-    → Walks bits zones (reached_stretch address scene depth t spec) mid inner asked more
-    → StepsWith bits (after_target (record { name = scene.name.now; term = t }) purpose) inner old new
-    → Walks bits zones (target_stretch address scene depth t spec purpose) old new asked more
-target_walk bits zones address scene depth t spec purpose old mid inner new asked more enters walks uses =
-    walks_alike bits zones (target_stretch address scene depth t spec purpose) (λ a. judged (site_at scene (address a)) t purpose (run a)) old new asked more
-    (λ a c go. sym (target_judged (site_at scene (address a)) (check scene.limits (address a) depth) t spec c (goes_on purpose go)))
-    (judged_walk bits zones address scene t purpose run old within inner new asked more
+pub target_walk : (bits : ℕ) (zones : Answering) (address : ℕ → Address) (context : RecordContext) (depth t : ℕ) (spec : List Piece) (purpose : Purpose) (old mid inner new : List (Cidr × State)) (asked more : List Question)
+    → StepsAt bits (λ a state. after_lookup context.limits (record { name = context.name.now; term = t }) (entered state)) old mid
+    → Walks bits zones (reached_stretch address context depth t spec) mid inner asked more
+    → StepsWith bits (after_target (record { name = context.name.now; term = t }) purpose) inner old new
+    → Walks bits zones (target_stretch address context depth t spec purpose) old new asked more
+target_walk bits zones address context depth t spec purpose old mid inner new asked more enters walks uses =
+    walks_alike bits zones (target_stretch address context depth t spec purpose) (λ a. judged (site_of context) t purpose (run a)) old new asked more
+    (λ a c go. sym (target_judged (site_of context) (check context.limits (address a) depth) t spec c (goes_on purpose go)))
+    (judged_walk bits zones address context t purpose run old within inner new asked more
     (λ a below. subst (λ (w : Option State). IsSomeAnd (value_at bits old a) (λ s. w ≡ Some (entered s))) (sym (value_entered bits old a))
-    (enters_at (value_at bits old a) (λ s. value_at bits mid a ≡ Some (after_lookup scene.limits place (entered s))) (enters a below)))
-    (walks_twice bits zones (λ a. counted (site_at scene (address a)) t) (reached_stretch address scene depth t spec) within mid inner asked asked more
-    (walks_by_steps bits zones (λ a. counted (site_at scene (address a)) t) (λ a. after_lookup scene.limits place) within mid asked
-    (λ a s. lookup_moves zones asked (site_at scene (address a)) t s)
-    (λ a below. subst (λ (w : Option State). IsSomeAnd w (λ s. value_at bits mid a ≡ Some (after_lookup scene.limits place s))) (sym (value_entered bits old a))
-    (counts_at scene.limits place (value_at bits old a) (value_at bits mid a) (enters a below))))
+    (enters_at (value_at bits old a) (λ s. value_at bits mid a ≡ Some (after_lookup context.limits place (entered s))) (enters a below)))
+    (walks_twice bits zones (λ a. counted (site_of context) t) (reached_stretch address context depth t spec) within mid inner asked asked more
+    (walks_by_steps bits zones (λ a. counted (site_of context) t) (λ a. after_lookup context.limits place) within mid asked
+    (λ a s. lookup_moves zones asked (site_of context) t s)
+    (λ a below. subst (λ (w : Option State). IsSomeAnd w (λ s. value_at bits mid a ≡ Some (after_lookup context.limits place s))) (sym (value_entered bits old a))
+    (counts_at context.limits place (value_at bits old a) (value_at bits mid a) (enters a below))))
     walks)
     uses)
   where
     place : Place
-    place = record { name = scene.name.now; term = t }
+    place = record { name = context.name.now; term = t }
 
     within : List (Cidr × State)
     within = map enter_leaf old
 
     run : ℕ → Counts → Run
-    run a counts = with_domain (site_at scene (address a)) t spec counts (check scene.limits (address a) depth)
+    run a counts = with_domain (site_of context) t spec counts (check context.limits (address a) depth)

@@ -10,8 +10,9 @@ use Rattle.spf_model.specs.declared.outcome.Outcome.TheVariants.{Is}
 use Rattle.spf_model.specs.Run.{Run, Ends, Answering, AsksFor}
 use Rattle.symbolic_check.specs.declared.state.State.{State}
 use Rattle.symbolic_check.specs.declared.state.State.TheVariants.{Live, Decided, Failed}
-use Rattle.symbolic_check.specs.Walk.{Follows, Leaves, Part, Stretch, Moves, Walks, then_stretch, StepsAt}
-use Rattle.symbolic_check.proofs.Following.{follows_itself, follows_twice, follows_more}
+use Rattle.spf_model.specs.Settling.{Follows}
+use Rattle.symbolic_check.specs.Walk.{Leaves, Part, Stretch, Moves, Walks, then_stretch, StepsAt}
+use Rattle.spf_model.proofs.Following.{follows_itself, follows_twice, follows_more}
 
 -- all questions of one list are in another
 abbrev pub Within : List Question → List Question → Type 0

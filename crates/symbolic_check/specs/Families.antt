@@ -8,11 +8,11 @@ use Rattle.spf_model.specs.declared.outcome.Counts.{Counts}
 use Rattle.spf_model.specs.declared.outcome.Outcome.{Outcome}
 use Rattle.spf_model.specs.Check.{check_host}
 use Rattle.spf_model.specs.Run.{Run, Answering, EndsWith, AsksFor}
-use Rattle.symbolic_check.specs.declared.scene.Scene.{Scene}
+use Rattle.spf_model.specs.declared.context.RecordContext.{RecordContext}
 
--- RFC 7208, section 4: check_host for the address with this number, at the scene's domain
-abbrev pub run_at : (ℕ → Address) → Scene → ℕ → Run
-run_at address scene a = check_host scene.limits (address a) scene.domain.now scene.name.now
+-- RFC 7208, section 4: check_host for the address with this number, at the context's domain
+abbrev pub run_at : (ℕ → Address) → RecordContext → ℕ → Run
+run_at address context a = check_host context.limits (address a) context.domain.now context.name.now
 
 -- some address of the family asks the question
 abbrev pub AskedBySome : (bits : ℕ) → Answering → (ℕ → Run) → Question → Type 0

@@ -1,9 +1,7 @@
 pub mod Steps
 pub mod Walk
 pub mod Networks
-pub mod Settling
-pub mod Hosts
-pub mod Scenes
+pub mod Stretches
 pub mod Evaluation
 pub mod Laws
 pub mod Keyed

@@ -8,17 +8,10 @@ use Rattle.spf_model.specs.declared.outcome.Outcome.{Outcome}
 use Rattle.spf_model.specs.declared.outcome.Outcome.TheVariants.{Is}
 use Rattle.spf_model.specs.Run.{Run, Ends, Answering, EndsWith, AsksFor}
 use Rattle.spf_model.specs.Leads.{NoVerdict}
+use Rattle.spf_model.specs.Settling.{Follows}
 use Rattle.symbolic_check.specs.declared.state.State.{State}
 use Rattle.symbolic_check.specs.Steps.{is_live}
 use Rattle.symbolic_check.specs.declared.state.State.TheVariants.{Live, Decided, Failed}
-
--- what is left of a run: it ends as the run does, it asks nothing else, and what the run asks before it was asked
-pub record Follows (zones : Answering) (asked : List Question) (run rest : Run) : Type 0 where
-  pub ends : (outcome : Outcome) (counts : Counts)
-      → EndsWith zones rest outcome counts ↔ EndsWith zones run outcome counts
-  pub asks : (question : Question) → AsksFor zones rest question → AsksFor zones run question
-  pub covers : (question : Question) → AsksFor zones run question → Contains asked question
-      ⊎ AsksFor zones rest question
 
 -- a part of an evaluation, which is what comes after it led to a run
 abbrev pub Part : Type 0

@@ -1,192 +1,163 @@
-//! The mechanisms that ask for addresses, for every address of a family (RFC 7208, sections 5.3, 5.4 and 5.7).
+//! The mechanisms that ask the DNS for hosts, for every address of a family (RFC 7208, sections 5.3, 5.4, 5.5 and 5.7).
 ghost use Rattle.addr_bits.specs.Address.{address_of};
-ghost use Rattle.std.specs.Prelude.{◌≡◌, ℕ, ◌≤◌, List, Option, IfOk, Some, option_map};
+ghost use Rattle.std.specs.Prelude.{◌≡◌, ◌<◌, ◌≤◌, ◌^◌, ℕ, ◌++◌, List, Option, IfOk, OnOk, Some};
+ghost use Rattle.std.specs.List.{flat_map};
+ghost use Rattle.prefix_trie.specs.Leaves.{value_at};
+ghost use Rattle.zone_answers.specs.Answers.{answer_bodies};
 ghost use Rattle.zone_answers.specs.declared.answer.Question.{Question as Asked};
-ghost use Rattle.zone_answers.specs.declared.answer.Answer.{Answer as Told};
 ghost use Rattle.spf_model.specs.Run.{says};
 ghost use Rattle.spf_model.specs.Judging as judging;
+ghost use Rattle.spf_model.specs.Check.{unless_matched};
+ghost use Rattle.spf_model.specs.Leads.{site_of, MechanismFits};
 ghost use Rattle.spf_macros.specs.declared.piece.Piece.{Piece};
 ghost use Rattle.spf_grammar.specs.declared.verdict.Verdict.{Verdict as Given};
-ghost use Rattle.spf_model.specs.Leads.{TargetFits};
 ghost use Rattle.spf_grammar.specs.declared.policy.Term.TheVariants.{Directive};
 ghost use Rattle.spf_grammar.specs.declared.policy.Mechanism.TheVariants as mechanism;
-ghost use Rattle.symbolic_check.specs.Walk.{Walks, SomeLive};
-ghost use Rattle.symbolic_check.specs.Settling.{PartOf, site_at, Settles, SettlesBy};
-ghost use Rattle.symbolic_check.specs.Hosts.{Found, IsGathered, judge_hosts, judge_found};
-ghost use Rattle.symbolic_check.specs.Scenes.{term_stretch};
+ghost use Rattle.symbolic_check.specs.Walk.{Walks};
+ghost use Rattle.symbolic_check.specs.Stretches.{hosts_stretch, term_stretch};
 
-use crate::gathered::Gathered;
-use crate::scene::Scene;
 use crate::steps;
 use crate::steps::States;
+use addr_bits::Items;
 use match_sets::match_family;
-use spf_grammar::{NetworkFamily, Verdict};
-use spf_macros::MacroText;
-use spf_model::{Cause, Halt, Lens, Outcome, is_void};
-use std::alloc::AllocError;
-use zone_answers::{Answer, Questions};
+use prefix_trie::TrieMap;
+use spf_grammar::{Mechanism, NetworkFamily, Verdict};
+use spf_model::{Cause, Gathered, Halt, Lens, Outcome, RecordContext};
+use std::alloc::{AllocError, Global};
+use zone_answers::{Answer, Bodies, Questions};
 
-/// Whether something was found (RFC 7208, section 5.7).
-fn is_found(answer: &Answer) -> bool
-    ensures { result ≡ judging.is_found answer.now }
+/// Moves the bodies that were found to the end of a list.
+fn move_bodies(answer: Answer, bodies: &mut Bodies) -> Result<(), AllocError>
+    ensures { OnOk result (bodies.new ≡ bodies.old ++ answer_bodies answer) }
 {
-    matches!(answer, Answer::Found(_))
+    if let Answer::Found(found) = answer {
+        for body in found.into_vec() {
+            bodies.push(body)?;
+        }
+    }
+    Ok(())
 }
 
-impl Scene<'_> {
-    /// Counts a term that asks the DNS (RFC 7208, section 4.6.4).
-    fn count_lookup<W: NetworkFamily>(
-        &self,
-        term: u32,
-        states: &States<W>,
-    ) -> Result<States<W>, AllocError>
-        ensures { IfOk result (λ new. (asked : List Asked) → Walks W.BITS (says self.now.zones.now)
-            (λ a. judging.counted (site_at self.now (address_of W.family a)) term) states.now new asked asked) }
-    {
-        steps::count_lookups(self.alloc, states, self.limits, &self.place(term))
+/// All that was found, as one answer.
+fn one_answer(alloc: Global, answers: Items<Answer>) -> Result<Answer, AllocError>
+    ensures { IfOk result (λ answer. answer_bodies answer ≡ flat_map answer_bodies answers) }
+{
+    let mut bodies = Bodies::new(alloc);
+    for answer in answers.into_vec() {
+        move_bodies(answer, &mut bodies)?;
     }
+    Ok(Answer::Found(bodies))
+}
 
-    /// What a term that gathered the addresses of hosts comes to: its void is counted, and then it matches where one of
-    /// them agrees (RFC 7208, sections 4.6.4, 5.3 and 5.4). Where gathering ended, the term ends with that.
-    fn match_hosts<W: NetworkFamily>(
-        &self,
-        term: u32,
-        verdict: Verdict,
-        lens: Lens,
-        gathered: Result<Gathered, Halt>,
-        states: &States<W>,
-    ) -> Result<States<W>, AllocError>
-        requires len4 { lens.len4 ≤ 32 }
-        requires len6 { lens.len6 ≤ 128 }
-        ensures { IfOk result (λ new. (part : PartOf Found) (asked more : List Asked)
-            → SettlesBy IsGathered (says self.now.zones.now) part asked more gathered → SomeLive W.BITS states.now
-            → Walks W.BITS (says self.now.zones.now)
-            (λ a counts go. part a counts (λ found. judge_hosts (site_at self.now (address_of W.family a)) term verdict lens.len4 lens.len6 found counts go)) states.now new asked more) }
-    {
-        let gathered = match gathered {
-            Ok(gathered) => gathered,
-            Err(Halt::Ended(outcome)) => return steps::fail(self.alloc, states, &outcome),
-            Err(Halt::Memory) => return Err(AllocError),
-        };
-        let place = self.place(term);
-        let counted = steps::count_voids(self.alloc, states, self.limits, &place, gathered.void)?;
-        let set = match_family(self.alloc, &gathered.found, lens.of(W::family()))?;
-        steps::match_set(self.alloc, &counted, verdict, &set)
-    }
+/// The addresses that agree with one that was found (RFC 7208, sections 5.3 and 5.4).
+fn agreeing<W: NetworkFamily>(
+    alloc: Global,
+    lens: Lens,
+    answers: Items<Answer>,
+) -> Result<TrieMap<W, bool>, AllocError>
+    requires len4 { lens.len4 ≤ 32 }
+    requires len6 { lens.len6 ≤ 128 }
+    ensures { IfOk result (λ set. (a : ℕ) → a < 2 ^ W.BITS → value_at W.BITS set a ≡ Some
+        (judging.some_agrees lens.len4 lens.len6 (address_of W.family a) answers)) }
+{
+    let found = one_answer(alloc, answers)?;
+    match_family(alloc, &found, lens.of(W::family()))
+}
 
-    /// What `exists` comes to: its void is counted, and then it matches where something was found (RFC 7208, sections
-    /// 4.6.4 and 5.7). Where gathering ended, the term ends with that.
-    fn match_found<W: NetworkFamily>(
-        &self,
-        term: u32,
-        verdict: Verdict,
-        found: Result<Answer, Halt>,
-        states: &States<W>,
-    ) -> Result<States<W>, AllocError>
-        ensures { IfOk result (λ new. (part : PartOf Told) (asked more : List Asked)
-            → Settles (says self.now.zones.now) part asked more found → SomeLive W.BITS states.now
-            → Walks W.BITS (says self.now.zones.now)
-            (λ a counts go. part a counts (λ told. judge_found
-            (site_at self.now (address_of W.family a)) term verdict told counts go)) states.now new asked more) }
-    {
-        let found = match found {
-            Ok(found) => found,
-            Err(Halt::Ended(outcome)) => return steps::fail(self.alloc, states, &outcome),
-            Err(Halt::Memory) => return Err(AllocError),
-        };
-        let place = self.place(term);
-        let void = is_void(&found);
-        let counted = steps::count_voids(self.alloc, states, self.limits, &place, void)?;
-        steps::match_all(&counted, verdict, is_found(&found))
-    }
-
-    /// `a` with its verdict (RFC 7208, section 5.3).
-    pub(crate) fn walk_a<W: NetworkFamily>(
-        &self,
-        term: u32,
-        verdict: Verdict,
-        spec: Option<&MacroText>,
-        lens: Lens,
-        states: States<W>,
-        asked: &mut Questions,
-    ) -> Result<States<W>, AllocError>
-        requires target { TargetFits (option_map (λ s. s.now) spec) }
-        requires len4 { lens.len4 ≤ 32 }
-        requires len6 { lens.len6 ≤ 128 }
-        ensures { IfOk result (λ new. (depth : ℕ) → Walks W.BITS (says self.now.zones.now)
-            (term_stretch (address_of W.family) self.now depth term
-            (Directive verdict (mechanism.A (option_map
-            (λ s. s.now) spec.entry) lens.len4 lens.len6))) states new asked.old asked.new) }
-    {
-        let counted = self.count_lookup(term, &states)?;
-        if !steps::is_some_live(&counted) {
-            return Ok(counted);
+/// The addresses that a mechanism matches by the answers of its hosts (RFC 7208, sections 5.3, 5.4 and 5.7).
+fn met<W: NetworkFamily>(
+    alloc: Global,
+    mechanism: &Mechanism,
+    gathered: Gathered,
+) -> Result<TrieMap<W, bool>, AllocError>
+    requires { MechanismFits mechanism.now }
+    ensures { IfOk result (λ set. (a : ℕ) → a < 2 ^ W.BITS → value_at W.BITS set a ≡ Some
+        (judging.is_met mechanism.now (address_of W.family a) gathered.answers)) }
+{
+    match mechanism {
+        Mechanism::A(_, len4, len6) | Mechanism::Mx(_, len4, len6) => {
+            let lens = Lens {
+                len4: *len4,
+                len6: *len6,
+            };
+            agreeing(alloc, lens, gathered.answers)
         }
-        let gathered = self.gather_a::<W>(term, spec, asked);
-        self.match_hosts(term, verdict, lens, gathered, &counted)
+        Mechanism::Exists(_) => TrieMap::whole(alloc, gathered.some_found()),
+        _ => TrieMap::whole(alloc, false),
     }
+}
 
-    /// `mx` with its verdict (RFC 7208, section 5.4).
-    pub(crate) fn walk_mx<W: NetworkFamily>(
-        &self,
-        term: u32,
-        verdict: Verdict,
-        spec: Option<&MacroText>,
-        lens: Lens,
-        states: States<W>,
-        asked: &mut Questions,
-    ) -> Result<States<W>, AllocError>
-        requires target { TargetFits (option_map (λ s. s.now) spec) }
-        requires len4 { lens.len4 ≤ 32 }
-        requires len6 { lens.len6 ≤ 128 }
-        ensures { IfOk result (λ new. (depth : ℕ) → Walks W.BITS (says self.now.zones.now)
-            (term_stretch (address_of W.family) self.now depth term
-            (Directive verdict (mechanism.Mx (option_map
-            (λ s. s.now) spec.entry) lens.len4 lens.len6))) states new asked.old asked.new) }
-    {
-        let counted = self.count_lookup(term, &states)?;
-        if !steps::is_some_live(&counted) {
-            return Ok(counted);
-        }
-        let gathered = self.gather_mx::<W>(term, spec, asked);
-        self.match_hosts(term, verdict, lens, gathered, &counted)
-    }
+/// Counts a term that asks the DNS (RFC 7208, section 4.6.4).
+fn count_lookup<W: NetworkFamily>(
+    context: &RecordContext<'_>,
+    term: u32,
+    states: &States<W>,
+) -> Result<States<W>, AllocError>
+    ensures { IfOk result (λ new. (asked : List Asked) → Walks W.BITS (says context.now.zones.now)
+        (λ a. judging.counted (site_of context.now) term) states.now new asked asked) }
+{
+    steps::count_lookups(context.alloc, states, context.limits, &context.place(term))
+}
 
-    /// `exists` with its verdict (RFC 7208, section 5.7).
-    pub(crate) fn walk_exists<W: NetworkFamily>(
-        &self,
-        term: u32,
-        verdict: Verdict,
-        spec: &MacroText,
-        states: States<W>,
-        asked: &mut Questions,
-    ) -> Result<States<W>, AllocError>
-        requires { TargetFits (Some spec.now) }
-        ensures { IfOk result (λ new. (depth : ℕ) → Walks W.BITS (says self.now.zones.now)
-            (term_stretch (address_of W.family) self.now depth term
-            (Directive verdict (mechanism.Exists spec.now))) states new asked.old asked.new) }
-    {
-        let counted = self.count_lookup(term, &states)?;
-        if !steps::is_some_live(&counted) {
-            return Ok(counted);
-        }
-        let found = self.gather_exists::<W>(term, spec, asked);
-        self.match_found(term, verdict, found, &counted)
-    }
+/// What a mechanism makes of what it gathered: its void is counted, and then it matches or not (RFC 7208, sections
+/// 4.6.4, 5.3, 5.4 and 5.7).
+fn match_gathered<W: NetworkFamily>(
+    context: &RecordContext<'_>,
+    term: u32,
+    verdict: Verdict,
+    mechanism: &Mechanism,
+    gathered: Gathered,
+    states: &States<W>,
+) -> Result<States<W>, AllocError>
+    requires { MechanismFits mechanism.now }
+    ensures { IfOk result (λ new. (asked : List Asked) → Walks W.BITS (says context.now.zones.now)
+        (λ a counts go. judging.judge_gathered (site_of context.now) (address_of W.family a) term
+        mechanism.now gathered counts (unless_matched verdict go)) states.now new asked asked) }
+{
+    let place = context.place(term);
+    let void = gathered.some_void();
+    let counted = steps::count_voids(context.alloc, states, context.limits, &place, void)?;
+    let set = met(context.alloc, mechanism, gathered)?;
+    steps::match_set(context.alloc, &counted, verdict, &set)
+}
 
-    /// `ptr`, which is left open wherever its lookup is counted (RFC 7208, section 5.5). It asks nothing.
-    pub(crate) fn walk_ptr<W: NetworkFamily>(
-        &self,
-        term: u32,
-        states: States<W>,
-    ) -> Result<States<W>, AllocError>
-        ensures { IfOk result (λ new. (asked : List Asked) (depth : ℕ) (verdict : Given) (spec : Option (List Piece))
-            → Walks W.BITS (says self.now.zones.now)
-            (term_stretch (address_of W.family) self.now depth term
-            (Directive verdict (mechanism.Ptr spec))) states new asked asked) }
-    {
-        let counted = self.count_lookup(term, &states)?;
-        let open = Outcome::Unsettled(Cause::Reverse, self.place(term));
-        steps::fail(self.alloc, &counted, &open)
+/// A mechanism that asks for hosts, with its verdict: its lookup is counted, its answers are gathered once for all
+/// addresses, and then they are judged (RFC 7208, sections 4.6.4, 5.3, 5.4 and 5.7).
+pub(crate) fn walk_hosts<W: NetworkFamily>(
+    context: &RecordContext<'_>,
+    term: u32,
+    verdict: Verdict,
+    mechanism: &Mechanism,
+    states: States<W>,
+    asked: &mut Questions,
+) -> Result<States<W>, AllocError>
+    requires { MechanismFits mechanism.now }
+    ensures { IfOk result (λ new. Walks W.BITS (says context.now.zones.now)
+        (hosts_stretch (address_of W.family) context.now term verdict mechanism.now) states new asked.old asked.new) }
+{
+    let counted = count_lookup(context, term, &states)?;
+    if !steps::is_some_live(&counted) {
+        return Ok(counted);
     }
+    match context.gather(term, mechanism, asked) {
+        Ok(gathered) => match_gathered(context, term, verdict, mechanism, gathered, &counted),
+        Err(Halt::Ended(outcome)) => steps::fail(context.alloc, &counted, &outcome),
+        Err(Halt::Memory) => Err(AllocError),
+    }
+}
+
+/// `ptr`, which is left open wherever its lookup is counted (RFC 7208, section 5.5). It asks nothing.
+pub(crate) fn walk_ptr<W: NetworkFamily>(
+    context: &RecordContext<'_>,
+    term: u32,
+    states: States<W>,
+) -> Result<States<W>, AllocError>
+    ensures { IfOk result (λ new. (asked : List Asked) (depth : ℕ) (verdict : Given) (spec : Option (List Piece))
+        → Walks W.BITS (says context.now.zones.now)
+        (term_stretch (address_of W.family) context.now depth term
+        (Directive verdict (mechanism.Ptr spec))) states new asked asked) }
+{
+    let counted = count_lookup(context, term, &states)?;
+    let open = Outcome::Unsettled(Cause::Reverse, context.place(term));
+    steps::fail(context.alloc, &counted, &open)
 }

@@ -3,11 +3,9 @@
 
 mod asked;
 mod both;
-mod gathered;
 mod hosts;
 mod laws;
 mod networks;
-mod scene;
 mod state;
 mod steps;
 mod walk;

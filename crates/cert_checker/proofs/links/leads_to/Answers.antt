@@ -1,6 +1,4 @@
-use Rattle.std.proofs.Common.{ap, sym, ◌∙◌, subst, ◌≡◌, Some}
-use Rattle.addr_bits.specs.declared.address.Family.TheVariants as family
-use Rattle.spf_macros.specs.declared.expansion.Expanded.TheVariants.{Out}
+use Rattle.std.proofs.Common.{ap, sym, ◌∙◌}
 use Rattle.spf_model.specs.Judging.{name_of}
 use Rattle.cert_checker.proofs.LinkLemmas.{leads_named, leads_so, literals_for_all}
 use Rattle.cert_checker.proofs.links.leads_to.Goals as goal

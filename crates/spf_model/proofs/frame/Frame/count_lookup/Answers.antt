@@ -4,4 +4,4 @@ use Rattle.spf_model.proofs.frame.Frame.count_lookup.Goals as goal
 
 pub returns-then-counts-self-clause-counted : goal.returns-then-counts-self-clause-counted
 returns-then-counts-self-clause-counted c =
-    counted_full _ (site_of c.args.self.now) c.args.term c.args.counts.now c.error.result c.error.ensures c.if-counts-self.true
+    counted_full _ (site_of c.args.self.now.context) c.args.term c.args.counts.now c.error.result c.error.ensures c.if-counts-self.true

@@ -1,9 +1,0 @@
-use Rattle.addr_bits.specs.Address.{address_of}
-use Rattle.spf_model.specs.Run.{says}
-use Rattle.symbolic_check.proofs.Combining.{if_ok_by}
-use Rattle.symbolic_check.proofs.Matching.{lookup_walks}
-use Rattle.symbolic_check.proofs.scene.Scene.count_lookup.Goals as goal
-
-pub returns : goal.returns
-returns g c = if_ok_by _ c.count_lookups.result c.count_lookups.ensures
-    (λ new steps asked. lookup_walks g.W.Width.BITS (says c.args.self.now.zones.now) c.args.self.now (address_of g.W.AddressFamily.family) c.args.term c.place.result c.args.states.now new asked c.place.ensures steps)
