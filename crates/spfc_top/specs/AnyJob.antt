@@ -3,20 +3,24 @@ use Rattle.std.specs.Prelude.{ℕ, List, [], ◌∷◌, ◌≡◌, codes}
 use Rattle.jobs.specs.Meaning.{Meaning, Program, program}
 use Rattle.job_check.specs.Meaning.{meaning_of_check}
 use Rattle.job_check.specs.Words.{SpellsCheck}
+use Rattle.job_compare.specs.Meaning.{meaning_of_compare}
+use Rattle.job_compare.specs.Words.{SpellsCompare}
 use Rattle.job_compile.specs.Meaning.{meaning_of_compile}
 use Rattle.job_compile.specs.Words.{SpellsCompile}
 use Rattle.spfc_top.specs.declared.any_job.AnyJob.{AnyJob}
-use Rattle.spfc_top.specs.declared.any_job.AnyJob.TheVariants.{Check, Compile}
+use Rattle.spfc_top.specs.declared.any_job.AnyJob.TheVariants.{Check, Compile, Compare}
 
 -- project's own choice: the command of a job
 abbrev pub command_of : AnyJob → List ℕ
 command_of (Check job) = codes "check"
 command_of (Compile job) = codes "compile"
+command_of (Compare job) = codes "compare"
 
 -- the words behind the command
 abbrev pub SpellsBehind : List (List ℕ) → AnyJob → Type 0
 SpellsBehind words (Check job) = SpellsCheck words job
 SpellsBehind words (Compile job) = SpellsCompile words job
+SpellsBehind words (Compare job) = SpellsCompare words job
 
 -- the words spell the job
 abbrev pub SpellsAny : List (List ℕ) → AnyJob → Type 0
@@ -27,6 +31,7 @@ SpellsAny (command ∷ words) job = (command ≡ command_of job) × SpellsBehind
 abbrev pub meaning_of : AnyJob → Meaning
 meaning_of (Check job) = meaning_of_check job
 meaning_of (Compile job) = meaning_of_compile job
+meaning_of (Compare job) = meaning_of_compare job
 
 -- all jobs
 abbrev pub jobs : Program

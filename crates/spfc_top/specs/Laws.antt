@@ -5,14 +5,16 @@ use Rattle.std.proofs.lemmas.Bool.{false≢true}
 use Rattle.std.proofs.lemmas.Slice.Eq.{bytes_eq-Decides}
 use Rattle.jobs.specs.Meaning.{IsLawful}
 use Rattle.job_check.specs.Laws.{check_ready, one_check, check_lawful}
+use Rattle.job_compare.specs.Laws.{compare_ready, one_compare, compare_lawful}
 use Rattle.job_compile.specs.Laws.{compile_ready, one_compile, compile_lawful}
 use Rattle.spfc_top.specs.declared.any_job.AnyJob.{AnyJob}
-use Rattle.spfc_top.specs.declared.any_job.AnyJob.TheVariants.{Check, Compile}
+use Rattle.spfc_top.specs.declared.any_job.AnyJob.TheVariants.{Check, Compile, Compare}
 use Rattle.spfc_top.specs.AnyJob.{command_of, SpellsBehind, SpellsAny, meaning_of}
 
 ready_behind : (words : List (List ℕ)) (job : AnyJob) → SpellsBehind words job → (meaning_of job).IsReady
 ready_behind words (Check job) is = check_ready words job is
 ready_behind words (Compile job) is = compile_ready words job is
+ready_behind words (Compare job) is = compare_ready words job is
 
 -- the words of a job make it ready
 pub any_ready : (words : List (List ℕ)) (job : AnyJob) → SpellsAny words job → (meaning_of job).IsReady
@@ -24,6 +26,7 @@ one_behind : (words : List (List ℕ)) (a b : AnyJob) → command_of a ≡ comma
     → SpellsBehind words b → a ≡ b
 one_behind words (Check a) (Check b) e x y = ap Check (one_check words a b x y)
 one_behind words (Compile a) (Compile b) e x y = ap Compile (one_compile words a b x y)
+one_behind words (Compare a) (Compare b) e x y = ap Compare (one_compare words a b x y)
 one_behind words a b e x y = absurd (false≢true ((bytes_eq-Decides (command_of a) (command_of b)).1 e))
 
 -- words spell one job at most
@@ -35,3 +38,4 @@ one_any (command ∷ words) a b x y = one_behind words a b (sym x.0 ∙ y.0) x.1
 pub any_lawful : (job : AnyJob) → IsLawful (meaning_of job)
 any_lawful (Check job) = check_lawful job
 any_lawful (Compile job) = compile_lawful job
+any_lawful (Compare job) = compare_lawful job

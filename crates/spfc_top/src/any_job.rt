@@ -5,6 +5,7 @@ ghost use Rattle.spfc_top.specs.AnyJob.{SpellsAny};
 ghost use Rattle.spfc_top.specs.declared.any_job.AnyJob.{AnyJob};
 
 use job_check::Check;
+use job_compare::Compare;
 use job_compile::Compile;
 use jobs::{Job, Output};
 use loading::{Loaded, OrMemory, Refusal};
@@ -18,6 +19,8 @@ pub enum AnyJob {
     Check(Check),
     /// `compile DOMAIN OPTIONS ORIGIN=FILE..`
     Compile(Compile),
+    /// `compare DOMAIN DOMAIN READING ORIGIN=FILE.. with ORIGIN=FILE..`
+    Compare(Compare),
 }
 
 /// The job that the words after the program's name spell; `None` exactly where they spell none.
@@ -49,6 +52,7 @@ impl Job for AnyJob {
         match command {
             "check" => Ok(Check::read(alloc, rest)?.map(AnyJob::Check)),
             "compile" => Ok(Compile::read(alloc, rest)?.map(AnyJob::Compile)),
+            "compare" => Ok(Compare::read(alloc, rest)?.map(AnyJob::Compare)),
             _ => Ok(None),
         }
     }
@@ -57,6 +61,7 @@ impl Job for AnyJob {
         match self {
             AnyJob::Check(job) => job.inputs(),
             AnyJob::Compile(job) => job.inputs(),
+            AnyJob::Compare(job) => job.inputs(),
         }
     }
 
@@ -64,6 +69,7 @@ impl Job for AnyJob {
         match self {
             AnyJob::Check(job) => job.perform(alloc, loaded),
             AnyJob::Compile(job) => job.perform(alloc, loaded),
+            AnyJob::Compare(job) => job.perform(alloc, loaded),
         }
     }
 }
