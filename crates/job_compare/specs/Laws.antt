@@ -1,5 +1,5 @@
 -- The laws of the job.
-use Rattle.std.specs.Prelude.{◌≡◌, ◌^◌, ◌<◌, ℕ, Bool, true, false, List, [], ◌∷◌, ◌++◌}
+use Rattle.std.specs.Prelude.{◌≡◌, ℕ, Bool, true, false, List, [], ◌∷◌, ◌++◌}
 use Rattle.std.specs.List.{before_first, after_first, list_any}
 use Rattle.std.proofs.Common.{arith, refl, sym, ap, ap₂, subst, ◌∙◌}
 use Rattle.addr_bits.specs.declared.address.Address.{Address}
@@ -18,13 +18,11 @@ use Rattle.policy_verdicts.specs.Policy.{verdict_at}
 use Rattle.policy_verdicts.proofs.OneAnswer.{one_refused as one_least, never_both, one_verdict}
 use Rattle.spfc_words.specs.Limits.{reading_options}
 use Rattle.spfc_words.specs.Options.{behind_options}
-use Rattle.spfc_words.specs.declared.input.Group.{Group}
 use Rattle.spfc_words.specs.declared.input.Group.TheVariants.{Zones, Others}
 use Rattle.spfc_words.specs.declared.input.Input.{Input}
 use Rattle.spfc_words.proofs.Domains.{one_domain}
 use Rattle.spfc_words.proofs.Inputs.{one_inputs}
 use Rattle.spfc_words.proofs.ReadingLimits.{one_limits, limits_modest}
-use Rattle.loading.specs.Lines.{line_of}
 use Rattle.loading.specs.declared.loaded.Loaded.{Loaded}
 use Rattle.loading.specs.declared.refusal.Refusal.{Refusal}
 use Rattle.loading.specs.declared.refusal.Refusal.TheVariants.{NoVerdict}
@@ -33,7 +31,7 @@ use Rattle.jobs.specs.declared.output.Output.{Output}
 use Rattle.job_compare.specs.Lines.{changes_text}
 use Rattle.job_compare.specs.Meaning.{second_zones, OneHas, TwoHas, CompareDue, one_refused, two_refused, compared}
 use Rattle.job_compare.specs.Meaning.{AreEqual, IsComparison, IsReady, meaning_of_compare}
-use Rattle.job_compare.specs.Words.{SpellsCompare, AreGroups, AreGroupsBy, is_with}
+use Rattle.job_compare.specs.Words.{SpellsCompare, AreGroupsBy, is_with}
 use Rattle.job_compare.specs.declared.compare.Compare.{Compare}
 use Rattle.job_compare.specs.declared.groups.Groups.{Groups}
 

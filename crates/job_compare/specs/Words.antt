@@ -20,19 +20,19 @@ pub record IsOneGroup (words : List (List ℕ)) (groups : Groups) : Type 0 where
   pub zones : AreZoneInputs Zones words groups.inputs
   pub second : groups.second ≡ Zones
 
--- the words are those of two groups, with `with` between them
-pub record AreTwoGroups (words : List (List ℕ)) (groups : Groups) : Type 0 where
+-- the words are those of two groups: the words in front of `with`, and those behind it
+pub record AreTwoGroups (front behind : List (List ℕ)) (groups : Groups) : Type 0 where
   pub first : List Input
   pub others : List Input
-  pub zones : AreZoneInputs Zones (before_first is_with words) first
-  pub other_zones : AreZoneInputs Others (after_first is_with words) others
+  pub zones : AreZoneInputs Zones front first
+  pub other_zones : AreZoneInputs Others behind others
   pub both : groups.inputs ≡ first ++ others
   pub second : groups.second ≡ Others
 
 -- the groups, by whether `with` is written
 abbrev pub AreGroupsBy : (with : Bool) → (words : List (List ℕ)) → Groups → Type 0
-AreGroupsBy true = AreTwoGroups
-AreGroupsBy false = IsOneGroup
+AreGroupsBy true words = AreTwoGroups (before_first is_with words) (after_first is_with words)
+AreGroupsBy false words = IsOneGroup words
 
 -- the words name these zones
 abbrev pub AreGroups : (words : List (List ℕ)) → Groups → Type 0
