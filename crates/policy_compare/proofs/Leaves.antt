@@ -5,7 +5,7 @@ use Rattle.std.proofs.lemmas.List.{take_more, take-append-drop}
 use Rattle.std.proofs.Math.Pow.{pow-lt}
 use Rattle.std.proofs.lemmas.Bool.{eq-eqb, ne_eqb, cases_order, false≢true}
 use Rattle.addr_bits.specs.Width.{cut_of}
-use Rattle.addr_bits.specs.Prefix.{Cidr, IsCidr, Covers}
+use Rattle.addr_bits.specs.Prefix.{Cidr, IsCidr}
 use Rattle.addr_bits.proofs.Cidrs.{range_from_Covers, Covers-from_range}
 use Rattle.prefix_trie.specs.Leaves.{value_at, CoverInOrder, SameLeaves}
 use Rattle.spf_grammar.specs.declared.verdict.Verdict.{Verdict}

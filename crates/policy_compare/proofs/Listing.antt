@@ -1,10 +1,10 @@
 -- Listing the changes of a family, each from its least address.
-use Rattle.std.proofs.Common.{◌≡◌, ◌≢◌, ◌⊎◌, inl, inr, ℕ, ◌+◌, ◌-◌, ◌^◌, ◌<◌, ◌≤◌, Bool, true, false, not, ◌&&◌, ◌||◌, List, [], ◌∷◌, ◌++◌, Option, Some, None, refl, sym, ap, ap₂, subst, ◌∙◌, Contains, arith}
+use Rattle.std.proofs.Common.{◌≡◌, ◌≢◌, inl, inr, ℕ, ◌-◌, ◌^◌, ◌<◌, Bool, true, false, not, ◌&&◌, ◌||◌, List, [], ◌∷◌, ◌++◌, Option, Some, None, refl, sym, ap, ap₂, subst, ◌∙◌, Contains, arith}
 use Rattle.std.specs.List.{list_any}
 use Rattle.std.specs.Prelude.{option_map, IfSome, IfNone}
-use Rattle.std.proofs.lemmas.Bool.{and_parts, and_from, cases_Bool, cases_order, false≢true, not-false, not_from_false, and_left, and_right}
+use Rattle.std.proofs.lemmas.Bool.{and_parts, and_from, cases_Bool, cases_order, false≢true}
 use Rattle.std.proofs.lemmas.List.Folds.{list_any-append}
-use Rattle.std.proofs.lemmas.List.Elements.{Contains-push, Contains-push_cases, Contains-append_left}
+use Rattle.std.proofs.lemmas.List.Elements.{Contains-push_cases}
 use Rattle.addr_bits.specs.Address.{address_of}
 use Rattle.addr_bits.specs.declared.address.Family.{Family}
 use Rattle.addr_bits.specs.Prefix.{Cidr}
@@ -12,11 +12,10 @@ use Rattle.prefix_trie.specs.Leaves.{value_at}
 use Rattle.spf_grammar.specs.declared.verdict.Verdict.{Verdict}
 use Rattle.fewest_terms.specs.Verdicts.{is_same}
 use Rattle.fewest_terms.proofs.VerdictLemmas.{is_same-self, is_same-true, is_same-false}
-use Rattle.symbolic_check.proofs.Keying.{in_cons, at_front, behind}
+use Rattle.symbolic_check.proofs.Keying.{at_front, behind}
 use Rattle.policy_compare.specs.Changes.{has_both, IsCount, IsLeast, IsChange, IsBelow, AreRising, AreFamilyChanges}
 use Rattle.policy_compare.specs.Pairs.{ArePairs, has_pair, is_new, is_new_at}
 use Rattle.policy_compare.specs.declared.change.Change.{Change}
-use Rattle.policy_compare.specs.declared.change.Count.{Count}
 use Rattle.policy_compare.specs.declared.pairs.Pair.{Pair}
 use Rattle.policy_compare.proofs.OneList.{both_have, have_both}
 
@@ -124,7 +123,6 @@ begins f bits v w next changes seen empty saw h =
 -- ---- one more change
 module _ (f : Family) (bits : ℕ) (v w : ℕ → Verdict) (n : ℕ) (changes : List Change) (change : Change) (so_far : IsListing f bits v w (Some n) changes)
     (one : change.one ≡ v n) (two : change.two ≡ w n) (least : change.least ≡ address_of f n) (counted : IsCount bits (has_both v w change.one change.two) change.count) where
-
   here_new : is_new_at v w changes n ≡ true
   here_new = so_far.goes_on.here
 

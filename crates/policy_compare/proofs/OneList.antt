@@ -1,7 +1,7 @@
 -- One list has the changes of two policies, and none has no change exactly where they are equal.
-use Rattle.std.proofs.Common.{◌≡◌, ◌≢◌, ◌↔◌, ◌⊎◌, inl, inr, ℕ, ◌+◌, ◌^◌, ◌<◌, Bool, true, false, ◌&&◌, ◌++◌, List, [], ◌∷◌, refl, sym, ap, ap₂, subst, ◌∙◌, Contains, arith}
+use Rattle.std.proofs.Common.{◌≡◌, inl, inr, ℕ, ◌^◌, ◌<◌, Bool, true, false, ◌&&◌, ◌++◌, List, [], ◌∷◌, refl, sym, ap, ap₂, subst, ◌∙◌, Contains, arith}
 use Rattle.std.proofs.lemmas.Bool.{and_parts, and_from, cases_Bool, false≢true, cases_order}
-use Rattle.addr_bits.specs.Address.{address_of, number_in}
+use Rattle.addr_bits.specs.Address.{address_of}
 use Rattle.addr_bits.specs.declared.address.Family.{Family}
 use Rattle.addr_bits.specs.declared.address.Family.TheVariants as family
 use Rattle.spf_grammar.specs.declared.verdict.Verdict.{Verdict}
@@ -9,7 +9,7 @@ use Rattle.fewest_terms.specs.Verdicts.{is_same}
 use Rattle.fewest_terms.proofs.VerdictLemmas.{is_same-self, is_same-true, is_same-false}
 use Rattle.symbolic_check.proofs.Keying.{at_front}
 use Rattle.policy_verdicts.proofs.OrderedLists.{InOrder, IsStrict, one_list}
-use Rattle.policy_compare.specs.Changes.{has_both, count_in, PassAll, IsCount, IsLeast, IsChange, IsBelow, AreRising, AreFamilyChanges, AreChanges}
+use Rattle.policy_compare.specs.Changes.{has_both, IsCount, IsLeast, IsChange, IsBelow, AreRising, AreFamilyChanges}
 use Rattle.policy_compare.specs.Laws.{Agree, OneListOfChanges, NoneWhereEqual}
 use Rattle.policy_compare.specs.declared.change.Change.{Change}
 use Rattle.policy_compare.specs.declared.change.Count.{Count}

@@ -40,11 +40,7 @@ fn other_than<W: Width>(both: &TrieMap<W, Pair>, pair: Pair) -> Option<W>
 }
 
 /// How many addresses of the family have this pair, of which the leaves are those of the trie.
-fn count_of<W: Width>(
-    both: &TrieMap<W, Pair>,
-    leaves: &[(Prefix<W>, Pair)],
-    pair: Pair,
-) -> Count
+fn count_of<W: Width>(both: &TrieMap<W, Pair>, leaves: &[(Prefix<W>, Pair)], pair: Pair) -> Count
     requires same { leaves.now ≡ both.now }
     ensures { (v w : ℕ → Verdict) → ArePairs W.BITS v w both.now
         → IsCount W.BITS (has_both v w pair.one pair.two) result }
