@@ -74,9 +74,7 @@ fn split_with(words: &[String]) -> Option<(&[String], &[String])>
         × (texts parts.0.now ≡ before_first is_with (texts words.now))
         × (texts parts.1.now ≡ after_first is_with (texts words.now))) }
 {
-    let Some(place) = place_of_with(words) else {
-        return None;
-    };
+    let place = place_of_with(words)?;
     Some((&words[..place], &words[place + 1..]))
 }
 
