@@ -148,7 +148,7 @@ written_is_read front rows4 rows6 total ends none w4 w6 small =
       place = omega (arith, length-append lines (t4 ++ t6), length-append t4 t6, length-texts V4 rows4, length-texts V6 rows6);
     }
 
-placed-rows : (from : ℕ) (rows : List NeedRow) → rows_of (placed_from from rows) ≡ rows
+pub placed-rows : (from : ℕ) (rows : List NeedRow) → rows_of (placed_from from rows) ≡ rows
 placed-rows from [] = refl
 placed-rows from (r ∷ rows) = ap (λ rs. r ∷ rs) (placed-rows (from + 1) rows)
 

@@ -8,3 +8,8 @@ mod ListVerdicts
 mod OneChain
 mod OneReason
 mod Prefixes
+mod Published
+mod PublishedChains
+mod PublishedLines
+mod PublishedLists
+mod PublishedTables

@@ -3,5 +3,4 @@ pub mod LegalSettings
 pub mod OnePolicy
 pub mod OnePublication
 pub mod PublicationLemmas
-pub mod SameVerdicts
 pub mod ShortestPolicy
