@@ -1,17 +1,14 @@
 -- The records of a chain, whoever wrote them, lent alone.
-use Rattle.std.proofs.Common.{◌≡◌, ℕ, suc, ◌+◌, ◌<◌, ◌≤◌, ◌==◌, Bool, true, false, not, cond, IsTrue, Ok, List, [], ◌∷◌, ◌++◌, length, filter, refl, sym, ap, ap₂, subst, ◌∙◌, arith, append_assoc, Option, Some, None}
+use Rattle.std.proofs.Common.{◌≡◌, ℕ, suc, ◌+◌, ◌≤◌, Bool, true, false, cond, IsTrue, List, [], ◌∷◌, ◌++◌, length, filter, refl, sym, ap, ap₂, subst, ◌∙◌, arith, append_assoc, Option, Some, None}
 use Rattle.std.specs.List.{AllByRecursion, concat}
 use Rattle.std.proofs.lemmas.List.Elements.{filter-append}
-use Rattle.addr_bits.specs.declared.address.Family.{Family}
-use Rattle.dns_name.specs.Name.{name_of_text}
 use Rattle.dns_name.proofs.Octets.{all_append}
-use Rattle.master_reader.specs.Reading.{Reads}
 use Rattle.master_reader.specs.declared.record.Body.{Body}
 use Rattle.master_reader.specs.declared.record.Body.TheVariants.{A, Aaaa, Mx, Txt, Cname, Ns, Other}
 use Rattle.master_reader.specs.declared.record.Record.{Record}
 use Rattle.zone_answers.specs.Answers.{zone_of}
 use Rattle.zone_answers.specs.Zone.{Zone}
-use Rattle.zone_answers.specs.Lend.{AreLendable, IsLent, with_zone}
+use Rattle.zone_answers.specs.Lend.{IsLent, with_zone}
 use Rattle.zone_answers.specs.Same.{same_name, distinct_records}
 use Rattle.zone_answers.proofs.Distinct.{all_distinct}
 use Rattle.zone_answers.proofs.Lending.{count_with}
@@ -35,7 +32,7 @@ use Rattle.published_records.proofs.StandingAlone.{ClashesNever, length_distinct
 use Rattle.published_records.proofs.StandingFound.{cuts, holds_strings, strings_record}
 use Rattle.published_records.proofs.StandingLists.{all_weaker}
 use Rattle.published_records.proofs.StandingRecords.{IsBetween, none_between}
-use Rattle.cert_checker.specs.Forms.{AreLinked, HasChainForm, HaveOwners, IsFlat, IsLast, IsLink, name_at}
+use Rattle.cert_checker.specs.Forms.{AreLinked, HasChainForm, HaveOwners, IsFlat, name_at}
 use Rattle.cert_checker.proofs.Domains.{has_two, named_at}
 
 -- ---- one record at each name

@@ -1,6 +1,5 @@
 -- From what the steps of verifying answer to what is promised.
-use Rattle.std.proofs.Common.{◌≡◌, ◌≢◌, ℕ, ◌^◌, ◌⊎◌, inl, inr, IsTrue, List, length, refl, sym, ap, ap₂, ◌∙◌, subst, Ok, Err}
-use Rattle.addr_bits.specs.declared.address.Address.{Address}
+use Rattle.std.proofs.Common.{◌≡◌, ℕ, inl, inr, IsTrue, List, length, refl, sym, ap, ◌∙◌, subst, Err}
 use Rattle.addr_bits.specs.declared.address.Family.TheVariants as family
 use Rattle.addr_bits.specs.Prefix.{Cidr}
 use Rattle.master_reader.specs.Reading.{Faults, Reads}

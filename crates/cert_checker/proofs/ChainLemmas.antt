@@ -1,10 +1,9 @@
 -- The names of the records of a chain, and what is left of them.
-use Rattle.std.proofs.Common.{◌≡◌, ℕ, ◌+◌, ◌-◌, ◌<◌, ◌≤◌, ◌==◌, Bool, true, false, cond, IsTrue, List, [], ◌∷◌, ◌++◌, length, drop, get_or, refl, sym, ap, ◌∙◌, subst, arith, add-one, drop-cons, Option, Some, None, ap₂, true≢false, bytes_eq, take, take-append-drop, ne_eqb}
+use Rattle.std.proofs.Common.{◌≡◌, ℕ, ◌+◌, ◌<◌, ◌≤◌, ◌==◌, Bool, true, false, IsTrue, List, [], ◌∷◌, ◌++◌, length, drop, get_or, refl, sym, ap, ◌∙◌, subst, arith, add-one, drop-cons, Some, None, ap₂, true≢false, bytes_eq, take, take-append-drop, ne_eqb}
 use Rattle.std.specs.Prelude.{decimal}
 use Rattle.std.proofs.Math.Seq.{take-append_seam}
 use Rattle.std.proofs.lemmas.Fmt.{decimal_digit}
-use Rattle.std.proofs.lemmas.List.{append_cancel_left, append_cancel_right}
-use Rattle.std.specs.List.{concat}
+use Rattle.std.proofs.lemmas.List.{append_cancel_left}
 use Rattle.dns_name.specs.Name.{first_label_of, parent_of}
 use Rattle.master_reader.specs.declared.record.Record.{Record}
 use Rattle.spf_macros.specs.Words.{is_label}
@@ -115,9 +114,10 @@ no_first name records second many is told label own = some_none (sym (second_lab
 
 pub numbered_so : (first label rest digits : List ℕ) (number : ℕ) (b : Bool) → first ≡ label ++ rest → digits ≡ decimal number → b ≡ bytes_eq rest digits
     → (IsTrue b → first ≡ label ++ decimal number) × (first ≡ label ++ decimal number → IsTrue b)
-numbered_so first label rest digits number b whole is same =
-    (λ t. whole ∙ ap (λ l. label ++ l) ((bytes_eq-Decides rest digits).0 (sym same ∙ t) ∙ is),
-    λ e. same ∙ (bytes_eq-Decides rest digits).1 (append_cancel_left label rest digits (sym whole ∙ e ∙ ap (λ l. label ++ l) (sym is))))
+numbered_so first label rest digits number b whole is same = (
+  λ t. whole ∙ ap (λ l. label ++ l) ((bytes_eq-Decides rest digits).0 (sym same ∙ t) ∙ is),
+  λ e. same ∙ (bytes_eq-Decides rest digits).1 (append_cancel_left label rest digits (sym whole ∙ e ∙ ap (λ l. label ++ l) (sym is))),
+)
 
 -- what is left where a text begins with a label
 pub begins_with : (first label rest : List ℕ) → bytes_eq (take (length label) first) label ≡ true → rest ≡ drop (length label) first → first ≡ label ++ rest
@@ -126,9 +126,10 @@ begins_with first label rest begins is =
 
 pub numbered_not : (first label : List ℕ) (number : ℕ) → bytes_eq (take (length label) first) label ≡ false
     → (IsTrue false → first ≡ label ++ decimal number) × (first ≡ label ++ decimal number → IsTrue false)
-numbered_not first label number begins =
-    (λ f. absurd (true≢false (sym f)),
-    λ e. sym begins ∙ (bytes_eq-Decides (take (length label) first) label).1 (ap (take (length label)) e ∙ take-append_seam label (decimal number)))
+numbered_not first label number begins = (
+  λ f. absurd (true≢false (sym f)),
+  λ e. sym begins ∙ (bytes_eq-Decides (take (length label) first) label).1 (ap (take (length label)) e ∙ take-append_seam label (decimal number)),
+)
 
 pub owner_zero : (owner name : Labels) (label : List ℕ) (number : ℕ) (b : Bool) → number ≡ 0 → b ≡ same_name owner name
     → (IsTrue b → owner ≡ record_owner name label number) × (owner ≡ record_owner name label number → IsTrue b)
@@ -148,9 +149,10 @@ pub owner_parts : (owner name above : Labels) (label first : List ℕ) (number :
     → (IsTrue b → owner ≡ record_owner name label number) × (owner ≡ record_owner name label number → IsTrue b)
 owner_parts owner name above label first number b behind f p same both =
     let some : (number == 0) ≡ false = ne_eqb number 0 behind in
-    let whole : owner ≡ first ∷ above = owner_is owner above first f p in
-    (λ t. whole ∙ ap₂ (λ (x : List ℕ) (xs : Labels). x ∷ xs) (both.0 t) same ∙ sym (owner_later name label number some),
-    λ e. both.1 (heads (sym whole ∙ e ∙ owner_later name label number some)))
+    let whole : owner ≡ first ∷ above = owner_is owner above first f p in (
+      λ t. whole ∙ ap₂ (λ (x : List ℕ) (xs : Labels). x ∷ xs) (both.0 t) same ∙ sym (owner_later name label number some),
+      λ e. both.1 (heads (sym whole ∙ e ∙ owner_later name label number some)),
+    )
 
 pub owner_other : (owner name above : Labels) (label first : List ℕ) (number : ℕ) (b : Bool) → (number ≡ 0 → ⊥) → first_label_of owner ≡ Some first → parent_of owner ≡ Some above
     → b ≡ same_name above name → b ≡ false → (IsTrue b → owner ≡ record_owner name label number) × (owner ≡ record_owner name label number → IsTrue b)

@@ -49,7 +49,7 @@ pub has_two : (domain : List ℕ) → IsTrue (is_domain domain) → HasTwoLabels
 has_two domain h = subst HasTwoLabels (sym (ap or_root (made domain h))) (two_labels (slice_split is_dot domain) (parts_of domain h).many)
 
 pub is_name : (domain : List ℕ) → IsTrue (is_domain domain) → IsOk (name_of_text domain)
-is_name domain h = subst IsOk (sym (named_at domain h)) tt
+is_name domain h = subst IsOk (sym (named_at domain h)) refl
 
 pub name_same : (domain : List ℕ) (name : List (List ℕ)) (r : Result (List (List ℕ)) NameFault) → r ≡ name_of_text domain → r ≡ Ok name → name ≡ name_at domain
 name_same domain name r told is = ap or_root (sym is ∙ told)

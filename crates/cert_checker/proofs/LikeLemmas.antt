@@ -1,5 +1,5 @@
 -- Where the verdicts of two tries differ.
-use Rattle.std.proofs.Common.{◌≡◌, ◌≢◌, ℕ, ◌<◌, ◌^◌, Bool, true, false, List, sym, ap, ◌∙◌, subst, arith, Option, Some, None, IfSome, IfNone, IsSomeAnd, rules}
+use Rattle.std.proofs.Common.{◌≡◌, ◌≢◌, ℕ, ◌<◌, ◌^◌, Bool, true, false, List, sym, ap, subst, arith, Option, Some, None, IfSome, IfNone, IsSomeAnd}
 use Rattle.addr_bits.specs.Address.{address_of}
 use Rattle.addr_bits.specs.Prefix.{Cidr}
 use Rattle.addr_bits.specs.declared.address.Family.{Family}

@@ -1,5 +1,5 @@
 -- The texts of records that lead from one to the next.
-use Rattle.std.proofs.Common.{◌≡◌, ℕ, ◌++◌, Bool, true, false, not, ◌&&◌, ◌||◌, List, [], ◌∷◌, refl, sym, ap, ap₂, ◌∙◌, subst, Option, Some, None, MatchOption, true≢false, append_assoc, append-nil, cond, IsTrue, IsFalse, drop, length, ◌↔◌, IfOk, Result}
+use Rattle.std.proofs.Common.{◌≡◌, ℕ, ◌++◌, Bool, true, false, not, ◌&&◌, ◌||◌, List, [], ◌∷◌, refl, sym, ap, ap₂, ◌∙◌, subst, Option, Some, None, MatchOption, true≢false, append_assoc, append-nil, cond, IsTrue, drop, length, ◌↔◌, IfOk, Result}
 use Rattle.std.specs.Prelude.{filter_map, slice_get}
 use Rattle.std.specs.List.{list_all, cons_option}
 use Rattle.std.proofs.Math.Seq.{drop-append_seam}
@@ -35,7 +35,7 @@ use Rattle.spf_model.specs.Chains.{all_terms, directives_of, mechanism_of, redir
 use Rattle.spf_model.specs.Check.{only_if, spf_text_of, text_of}
 use Rattle.spf_model.specs.Judging.{Labels, name_of}
 use Rattle.spf_model.proofs.OneOutcome.{some_once}
-use Rattle.cert_checker.specs.Forms.{AreLinked, HasPolicy, IsFlat, IsLast, IsLink, LeadsTo, has_all, has_all_last, is_all}
+use Rattle.cert_checker.specs.Forms.{AreLinked, HasPolicy, IsFlat, LeadsTo, has_all, has_all_last, is_all}
 use Rattle.cert_checker.specs.Reading.{AreTaken, BeginOtherwise, GoesOn, IsLinkedAnswer, IsOneAnswer, IsOneOf, flat_of, flat_with, owner_of}
 
 -- ---- `all`

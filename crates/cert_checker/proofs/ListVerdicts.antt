@@ -1,9 +1,9 @@
 -- The verdicts of a list, as tries have them and as check_host gives them.
-use Rattle.std.proofs.Common.{◌≡◌, ◌≢◌, ℕ, ◌+◌, ◌-◌, ◌<◌, ◌≤◌, ◌^◌, ◌==◌, Bool, true, false, cond, List, [], ◌∷◌, length, refl, sym, ap, ◌∙◌, subst, arith, Option, Some, None, eqb-true, nat_lt}
+use Rattle.std.proofs.Common.{◌≡◌, ℕ, ◌+◌, ◌-◌, ◌<◌, ◌≤◌, ◌^◌, ◌==◌, Bool, true, false, cond, List, [], ◌∷◌, length, refl, sym, ap, ◌∙◌, subst, arith, Some, None, eqb-true, nat_lt}
 use Rattle.std.proofs.lemmas.Bool.{ltb-true, ltb-false}
 use mathlib.Core.Path.{fun_ext}
 use Rattle.addr_bits.specs.Address.{IsAddress, address_of, bits_of}
-use Rattle.addr_bits.specs.Prefix.{Cidr, IsCidr}
+use Rattle.addr_bits.specs.Prefix.{Cidr}
 use Rattle.addr_bits.specs.Width.{cut_of}
 use Rattle.addr_bits.specs.declared.address.Address.{Address}
 use Rattle.addr_bits.specs.declared.address.Address.TheVariants.{V4, V6}
@@ -21,16 +21,16 @@ use Rattle.spf_grammar.specs.declared.verdict.Verdict.TheVariants.{Neutral}
 use Rattle.spf_grammar.proofs.FirstLemmas.{first-seen}
 use Rattle.spf_model.specs.Result as model
 use Rattle.spf_model.specs.Result.{AllHave}
-use Rattle.spf_model.specs.Run.{Answering, says}
+use Rattle.spf_model.specs.Run.{says}
 use Rattle.spf_model.specs.declared.outcome.Limits.{Limits}
 use Rattle.spf_model.specs.declared.outcome.Outcome.TheVariants.{Is}
 use Rattle.spf_model.proofs.OneOutcome.{one_verdict}
 use Rattle.verdict_map.specs.declared.tries.VerdictTries.{VerdictTries}
 use Rattle.fewest_terms.specs.Leaves.{or_neutral, verdict_at as trie_verdict}
 use Rattle.fewest_terms.proofs.TableLemmas.{table-le}
-use Rattle.policy_verdicts.specs.Policy.{KeepVerdicts, StandsBefore, verdict_at}
+use Rattle.policy_verdicts.specs.Policy.{KeepVerdicts, StandsBefore}
 use Rattle.bound_table.specs.Placed.{rows_of}
-use Rattle.cert_checker.specs.Likeness.{AllAlike, AreAlike, IsFirstUnlike, IsLeastUnlike}
+use Rattle.cert_checker.specs.Likeness.{AllAlike, AreAlike, IsFirstUnlike}
 use Rattle.cert_checker.specs.Reasons.{HasTable, IsLeastOther, IsSameList, verdicts_in}
 
 -- ---- behind the last address stands nothing

@@ -1,21 +1,15 @@
 -- One reason at most is the first that holds, and none beside a yes.
-use Rattle.std.proofs.Common.{◌≡◌, ◌≢◌, ℕ, ◌+◌, ◌<◌, ◌≤◌, ◌⊎◌, inl, inr, IsTrue, List, [], ◌∷◌, ◌++◌, length, refl, sym, ap, ap₂, ◌∙◌, subst, arith, Option, Some, None}
-use Rattle.std.specs.Prelude.{decimal}
-use Rattle.std.proofs.lemmas.List.{append_cancel_right}
-use Rattle.addr_bits.specs.Address.{IsAddress}
+use Rattle.std.proofs.Common.{◌≡◌, ◌≢◌, ℕ, ◌≤◌, inl, inr, List, [], ◌∷◌, length, refl, sym, ap, ap₂, subst, arith}
 use Rattle.addr_bits.specs.declared.address.Address.{Address}
 use Rattle.addr_bits.specs.declared.address.Family.TheVariants as family
-use Rattle.master_reader.specs.Reading.{Faults, Reads}
+use Rattle.master_reader.specs.Reading.{Faults}
 use Rattle.master_reader.specs.declared.fault.Kind.{Kind}
 use Rattle.master_reader.specs.declared.record.Record.{Record}
 use Rattle.master_reader.proofs.Once.{faults_once, reads_not_faults, reads_once}
 use Rattle.zone_answers.specs.Zone.{Zone}
-use Rattle.spf_macros.specs.declared.piece.Piece.{Piece}
 use Rattle.spf_grammar.specs.Flat.{first}
 use Rattle.spf_grammar.specs.declared.flat.FlatTerm.{FlatTerm}
-use Rattle.spf_grammar.specs.declared.verdict.Verdict.{Verdict as AnyVerdict}
-use Rattle.spf_model.specs.Chains.{all_terms, directives_of, redirect_terms}
-use Rattle.spf_model.specs.Judging.{Labels}
+use Rattle.spf_model.specs.Chains.{all_terms}
 use Rattle.spf_model.specs.Run.{Answering, says}
 use Rattle.spf_model.specs.Result.{Gives}
 use Rattle.spf_model.specs.declared.outcome.Limits.{Limits}
@@ -24,22 +18,20 @@ use Rattle.spf_model.specs.declared.outcome.Outcome.TheVariants.{Is}
 use Rattle.spf_model.proofs.OneOutcome.{one_verdict}
 use Rattle.policy_verdicts.specs.Policy.{IsLeastRefused, StandsBefore}
 use Rattle.policy_verdicts.proofs.OneAnswer.{never_both, one_place, one_refused}
-use Rattle.bound_table.specs.Placed.{PlacedRow, HasRisingLines}
-use Rattle.bound_table.specs.Reading.{AreTable, IsMisspelled, lines_of}
-use Rattle.bound_table.specs.Rounds.{IsGoodAsPlaced, IsNamed}
+use Rattle.bound_table.specs.Reading.{lines_of}
+use Rattle.bound_table.specs.Rounds.{IsNamed}
 use Rattle.bound_table.proofs.LaterRounds.{one_later_round}
 use Rattle.bound_table.proofs.OneRound.{one_first_round}
 use Rattle.bound_table.proofs.OneTable.{one_table}
 use Rattle.bound_table.proofs.Rising.{table_rises}
 use Rattle.record_pack.specs.Records.{IsFittingCut}
 use Rattle.cert_checker.specs.Certified.{IsCertified}
-use Rattle.cert_checker.specs.Forms.{AreLinked, HasChainForm, HasShorterCut, HaveOwners, IsFlat, IsRecordsFault, ReadChain, TextsFit, name_at, terms_of}
+use Rattle.cert_checker.specs.Forms.{AreLinked, HasChainForm, HasShorterCut, HaveOwners, IsRecordsFault, ReadChain, TextsFit, name_at, terms_of}
 use Rattle.cert_checker.specs.Laws.{NoReasonBesideYes, OneReason}
 use Rattle.cert_checker.specs.Reasons.{AllDecided, HasOtherRecords, HasOtherTotal, HasTable, IsBadTable, IsFaultyTable, IsLeastOther, IsNoChain, IsOtherChain, IsReason, IsTableFault, SameChain, others_at, verdicts_in}
 use Rattle.cert_checker.specs.declared.answer.No.{No}
 use Rattle.cert_checker.specs.declared.answer.No.TheVariants.{Refused, NotZone, NotChain, Verdict, Table, Terms, Records, Memory}
 use Rattle.cert_checker.specs.declared.answer.Yes.{Yes}
-use Rattle.cert_checker.proofs.LinkLemmas.{flat_told, redirect_otherwise}
 use Rattle.cert_checker.proofs.OneChain.{one_label, one_lists}
 
 -- ---- the table

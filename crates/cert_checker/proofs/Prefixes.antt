@@ -1,9 +1,8 @@
 -- The networks that records spell have the prefixes of their families.
-use Rattle.std.proofs.Common.{◌≡◌, ℕ, ◌+◌, ◌-◌, ◌/◌, ◌*◌, ◌<◌, ◌≤◌, ◌^◌, ◌⊎◌, inl, inr, List, [], ◌∷◌, ◌++◌, refl, sym, ap, ◌∙◌, subst, arith, Option, Some, None}
+use Rattle.std.proofs.Common.{ℕ, ◌-◌, ◌<◌, ◌≤◌, ◌^◌, inl, inr, List, [], ◌∷◌, ◌++◌, sym, subst, arith, Option, Some, None}
 use Rattle.std.proofs.Math.Nat.{div-mul-le_self}
 use Rattle.addr_bits.specs.Address.{SpellsIn, bits_of}
 use Rattle.addr_bits.specs.Prefix.{Cidr, IsCidr, cidr_of}
-use Rattle.addr_bits.specs.Width.{cut_of}
 use Rattle.addr_bits.specs.declared.address.Family.{Family}
 use Rattle.addr_bits.specs.declared.address.Family.TheVariants as family
 use Rattle.addr_bits.proofs.Cidrs.{cut_of-cut_of}

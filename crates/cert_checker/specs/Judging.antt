@@ -11,7 +11,7 @@ use Rattle.record_pack.specs.Records.{IsFittingCut}
 use Rattle.cert_checker.specs.Forms.{HasChainForm, HasShorterCut, HaveOwners, IsRecordsFault, TextsFit}
 use Rattle.cert_checker.specs.Likeness.{IsFirstUnlike}
 use Rattle.cert_checker.specs.declared.answer.No.{No}
-use Rattle.cert_checker.specs.declared.answer.No.TheVariants.{Refused, NotZone, NotChain, Verdict, Table, Terms, Records, Memory}
+use Rattle.cert_checker.specs.declared.answer.No.TheVariants.{Verdict, Records, Memory}
 use Rattle.cert_checker.specs.declared.chain.Chain.{Chain}
 
 -- ---- the chain

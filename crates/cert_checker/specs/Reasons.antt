@@ -1,5 +1,5 @@
 -- The reasons why a fragment is not accepted, each where it is the first that holds.
-use Rattle.std.specs.Prelude.{◌≡◌, ◌≢◌, ℕ, ◌<◌, ◌^◌, nat_lt, ◌⊎◌, List, length, Contains, if◌then◌else◌}
+use Rattle.std.specs.Prelude.{◌≢◌, ℕ, ◌^◌, nat_lt, ◌⊎◌, List, length, if◌then◌else◌}
 use Rattle.addr_bits.specs.Address.{IsAddress, address_of, bits_of}
 use Rattle.addr_bits.specs.declared.address.Address.{Address}
 use Rattle.addr_bits.specs.declared.address.Family.{Family}

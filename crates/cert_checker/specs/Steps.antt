@@ -9,7 +9,7 @@ use Rattle.bound_table.specs.declared.table.TableFault.{TableFault}
 use Rattle.bound_table.specs.declared.table.TableFault.TheVariants as table
 use Rattle.cert_checker.specs.Reasons.{HasTable, IsTableFault}
 use Rattle.cert_checker.specs.declared.answer.No.{No}
-use Rattle.cert_checker.specs.declared.answer.No.TheVariants.{Refused, NotZone, NotChain, Verdict, Table, Terms, Records, Memory}
+use Rattle.cert_checker.specs.declared.answer.No.TheVariants.{Refused, NotZone, Table, Terms, Memory}
 
 -- ---- faults of the calls
 
@@ -36,4 +36,3 @@ IsTableNo bytes list (Table line) = IsTableFault bytes list line
 IsTableNo bytes list Terms = (total : ℕ) × HasTable bytes list total × (length list ≢ total)
 IsTableNo bytes list Memory = Unit {0}
 IsTableNo bytes list _ = ⊥
-

@@ -34,12 +34,7 @@ fn judge_list(alloc: Global, due: &VerdictTries, list: &[FlatTerm]) -> Result<()
 }
 
 /// Refuses bytes whose table is not good for the verdicts of the list, or shows another number of terms.
-fn judge_table(
-    alloc: Global,
-    bytes: &[u8],
-    due: &VerdictTries,
-    list: &[FlatTerm],
-) -> Result<(), No>
+fn judge_table(alloc: Global, bytes: &[u8], due: &VerdictTries, list: &[FlatTerm]) -> Result<(), No>
     requires same { AllAlike due.now list.now }
     ensures good { IfOk result (λ _. HasTable bytes.now list.now (length list.now)) }
     ensures fault { IfErr result (IsTableNo bytes.now list.now) }

@@ -92,7 +92,9 @@ fn has_all_last(terms: &[FlatTerm]) -> bool
 fn are_literal(pieces: &[Piece]) -> bool
     ensures { result ≡ list_all (λ piece. not (is_expand piece)) pieces.now }
 {
-    pieces.iter().all(|piece| matches!(piece, Piece::Literal(_)))
+    pieces
+        .iter()
+        .all(|piece| matches!(piece, Piece::Literal(_)))
 }
 
 /// Whether the text writes the name (RFC 1034, section 3.1).

@@ -173,10 +173,10 @@ pub holds : (zones : List Zone) (zone : Zone) (name : List (List ℕ)) (text : L
 holds zones zone name text old new e s =
     subst (Holds (says zones) name) (strings_join text)
     (holds_strings zones zone name (strings_of text) old new e (record {
-    records = s.records;
-    at_name = s.at_name;
-    old_uncut = s.old_uncut;
-    new_uncut = s.new_uncut;
-    plain = s.plain;
-    spf = ap is_spf_text (strings_join text) ∙ s.spf;
+      records = s.records;
+      at_name = s.at_name;
+      old_uncut = s.old_uncut;
+      new_uncut = s.new_uncut;
+      plain = s.plain;
+      spf = ap is_spf_text (strings_join text) ∙ s.spf;
     }))

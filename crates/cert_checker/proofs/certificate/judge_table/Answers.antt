@@ -1,4 +1,4 @@
-use Rattle.std.proofs.Common.{rules, sym, ap, ◌∙◌, subst}
+use Rattle.std.proofs.Common.{rules, sym, subst}
 use Rattle.cert_checker.specs.Reasons.{HasTable}
 use Rattle.cert_checker.proofs.Certifying.{checked_fault, has_table}
 use Rattle.cert_checker.proofs.certificate.judge_table.Goals as goal

@@ -1,6 +1,5 @@
-use Rattle.std.proofs.Common.{sym, ap, ◌∙◌, subst}
+use Rattle.std.proofs.Common.{sym}
 use Rattle.std.proofs.lemmas.Bool.{ltb-true}
-use Rattle.cert_checker.specs.Judging.{IsLabelAnswer}
 use Rattle.cert_checker.proofs.ChainLemmas.{label_second, label_single}
 use Rattle.cert_checker.proofs.chain.label_of.Goals as goal
 

@@ -1,13 +1,9 @@
-use Rattle.std.proofs.Common.{◌≡◌, List, ℕ, [], ◌∷◌, Some, None, Result, IfOk, MatchOption, Option, ap, sym, ◌∙◌, subst}
+use Rattle.std.proofs.Common.{IfOk, ap, sym, ◌∙◌, subst}
 use Rattle.std.specs.Prelude.{filter_map, slice_get}
 use Rattle.std.specs.Option.{option_copied}
-use Rattle.std.specs.declared.alloc.AllocError.{AllocError}
 use Rattle.std.proofs.lemmas.Result.{IfOk-weaker}
-use Rattle.master_reader.specs.declared.record.Body.{Body}
 use Rattle.spf_grammar.specs.Grammar.{ReadAs}
-use Rattle.spf_grammar.specs.declared.policy.Policy.{Policy}
 use Rattle.spf_model.specs.Check.{spf_text_of}
-use Rattle.cert_checker.specs.Forms.{HasPolicy}
 use Rattle.cert_checker.proofs.LinkLemmas.{no_policy, policy_read}
 use Rattle.cert_checker.proofs.links.read_policy.Goals as goal
 

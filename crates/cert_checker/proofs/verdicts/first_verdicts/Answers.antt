@@ -1,4 +1,4 @@
-use Rattle.std.specs.Prelude.{Option, if◌then◌else◌}
+use Rattle.std.specs.Prelude.{if◌then◌else◌}
 use Rattle.std.proofs.Common.{◌≡◌, ◌+◌, ◌-◌, ◌<◌, Bool, true, false, ℕ, List, ◌∷◌, Some, drop, length, get_or, arith, refl, sym, ap, ◌∙◌, add-one, drop-cons}
 use Rattle.addr_bits.specs.Address.{address_of}
 use Rattle.spf_grammar.specs.Flat.{covers, first}

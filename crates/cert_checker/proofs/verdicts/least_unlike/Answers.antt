@@ -1,4 +1,3 @@
-use Rattle.cert_checker.specs.Likeness.{AreAlike, IsLeastUnlike}
 use Rattle.cert_checker.proofs.LikeLemmas.{alike_so, if_none_by, if_some_by, least_so}
 use Rattle.cert_checker.proofs.verdicts.least_unlike.Goals as goal
 
