@@ -8,8 +8,9 @@ mod ListVerdicts
 mod OneChain
 mod OneReason
 mod Prefixes
-mod Published
+pub mod Published
 mod PublishedChains
 mod PublishedLines
 mod PublishedLists
+mod PublishedRows
 mod PublishedTables

@@ -1,5 +1,5 @@
 -- What was published is certified.
-use Rattle.std.proofs.Common.{◌≡◌, ℕ, ◌≤◌, Ok, IsTrue, List, [], ◌++◌, length, refl, sym, ap, ap₂, subst, ◌∙◌, arith}
+use Rattle.std.proofs.Common.{◌≡◌, ℕ, Ok, List, ◌++◌, length, refl, sym, ap, subst, ◌∙◌, arith}
 use Rattle.addr_bits.specs.declared.address.Address.TheVariants.{V4, V6}
 use Rattle.dns_name.specs.Name.{name_of_text}
 use Rattle.master_reader.specs.Reading.{Reads}
@@ -10,7 +10,6 @@ use Rattle.spf_grammar.specs.Families.{HavePrefixes}
 use Rattle.spf_grammar.specs.declared.flat.FlatTerm.{FlatTerm}
 use Rattle.spf_grammar.specs.declared.verdict.Verdict.{Verdict}
 use Rattle.spf_model.specs.Chains.{all_terms}
-use Rattle.spf_model.specs.Judging.{Labels}
 use Rattle.spf_model.specs.Result.{AllHave, Gives}
 use Rattle.spf_model.specs.Run.{says}
 use Rattle.spf_model.specs.declared.outcome.Limits.{Limits}
@@ -21,16 +20,15 @@ use Rattle.fewest_terms.specs.Totals.{total}
 use Rattle.fewest_terms.proofs.AnswerLemmas.{list-counted, list-gives4, list-gives6, list-prefixes}
 use Rattle.policy_verdicts.specs.Policy.{verdict_at}
 use Rattle.record_pack.specs.Records.{IsFittingCut, pieces_from}
-use Rattle.zone_writer.specs.Fragment.{fragment_text, head_text, record_lines}
+use Rattle.zone_writer.specs.Fragment.{head_text, record_lines}
 use Rattle.zone_writer.specs.Written.{written_records}
 use Rattle.zone_writer.proofs.Fragments.{fragment_is_read}
 use Rattle.published_records.proofs.Publishing.{pieces_prefixes, pieces_terms}
 use Rattle.published_records.proofs.StandingAlone.{length_pieces, length_written}
 use Rattle.cert_checker.specs.Certified.{IsCertified}
-use Rattle.cert_checker.specs.Forms.{ReadChain, TextsFit, name_at, terms_of}
+use Rattle.cert_checker.specs.Forms.{ReadChain, name_at}
 use Rattle.cert_checker.specs.Published.{IsPublished, PublishedHasNoReason, PublishedIsCertified}
 use Rattle.cert_checker.specs.Reasons.{HasTable, IsSameList, others_at}
-use Rattle.cert_checker.specs.declared.answer.Yes.{Yes}
 use Rattle.cert_checker.proofs.Alone.{gives_alone, lent_alone}
 use Rattle.cert_checker.proofs.Domains.{named_at}
 use Rattle.cert_checker.proofs.ListVerdicts.{no_shorter}
@@ -39,6 +37,7 @@ use Rattle.cert_checker.proofs.Prefixes.{chain_valid}
 use Rattle.cert_checker.proofs.PublishedChains.{written_fit, written_form}
 use Rattle.cert_checker.proofs.PublishedLines.{front_other}
 use Rattle.cert_checker.proofs.PublishedLists.{chosen_last}
+use Rattle.cert_checker.proofs.PublishedRows.{AreAllSmall, all_small}
 use Rattle.cert_checker.proofs.PublishedTables.{written_table}
 
 -- the chosen list gives each address the verdict that it has
@@ -94,7 +93,10 @@ module _ (zones : List Zone) (limits : Limits) (domain label : List ℕ) (ttl si
       subst (λ bs. HasTable bs (chosen_list p.v4 p.v6) (total p.v4 p.v6)) (sym p.written)
       (written_table p.v4 p.v6 (head_text domain ttl ++ record_lines domain label 0 lists)
       (front_other domain label ttl lists p.words.domain_form p.words.label_form p.lasting (omega (arith, length_pieces list 0 p.ends, p.fits.cut.few)) (pieces_prefixes list 0 p.ends prefixes))
-      p.small4 p.small6 p.small)
+      small.four small.six small.whole)
+    where
+      small : AreAllSmall p.v4 p.v6
+      small = all_small p.v4 p.v6 domain label size (others_at zones domain) p.ends p.narrow p.fits
 
   certified : IsCertified zones limits domain size bytes (record { terms = total p.v4 p.v6; records = length p.ends })
   certified =

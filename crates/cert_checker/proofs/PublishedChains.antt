@@ -1,10 +1,9 @@
 -- The records of a published list are a chain, of which each record fits.
-use Rattle.std.proofs.Common.{◌≡◌, ℕ, ◌+◌, ◌<◌, ◌≤◌, ◌==◌, Bool, true, false, not, IsTrue, IsFalse, Ok, List, [], ◌∷◌, length, map, refl, sym, ap, subst, arith, Option, Some, None}
+use Rattle.std.proofs.Common.{◌≡◌, ℕ, ◌+◌, ◌<◌, ◌≤◌, ◌==◌, Bool, true, false, not, IsTrue, Ok, List, [], ◌∷◌, length, map, refl, sym, ap, subst, arith, Some}
 use Rattle.std.specs.Prelude.{if◌then◌else◌}
 use Rattle.std.specs.List.{concat, list_all}
 use Rattle.dns_name.specs.Name.{name_of_text}
 use Rattle.master_reader.specs.declared.record.Body.TheVariants.{Txt}
-use Rattle.master_reader.specs.declared.record.Record.{Record}
 use Rattle.spf_macros.specs.Grammar.{is_expand}
 use Rattle.spf_macros.specs.declared.piece.Piece.{Piece}
 use Rattle.spf_macros.specs.declared.piece.Piece.TheVariants.{Literal}
@@ -21,7 +20,7 @@ use Rattle.published_records.proofs.RecordChains.{name_short, next_named, unfold
 use Rattle.published_records.proofs.RecordTexts.{records_lead_on, records_spell}
 use Rattle.published_records.proofs.StandingAlone.{length_pieces, length_written}
 use Rattle.published_records.proofs.StandingTexts.{strings_join}
-use Rattle.cert_checker.specs.Forms.{AreLinked, HasChainForm, HaveOwners, IsFlat, LeadsTo, TextsFit, has_all, has_all_last}
+use Rattle.cert_checker.specs.Forms.{AreLinked, HasChainForm, HaveOwners, IsFlat, LeadsTo, TextsFit, has_all_last}
 use Rattle.cert_checker.proofs.PublishedLists.{EndInside, ends_inside, piece_last, piece_other}
 
 text_is : (text : List ℕ) → text_of (Txt (strings_of text)) ≡ Some text

@@ -4,7 +4,6 @@ use Rattle.std.specs.Prelude.{codes}
 use Rattle.std.specs.List.{list_all, list_any}
 use Rattle.std.proofs.lemmas.Bool.{and_parts, or_from}
 use Rattle.spf_macros.specs.Words.{is_domain, is_label}
-use Rattle.spf_grammar.specs.Families.{HavePrefixes}
 use Rattle.spf_grammar.specs.declared.flat.FlatTerm.{FlatTerm}
 use Rattle.spf_grammar.proofs.OneTail.{all_both, keeps_out, weaker}
 use Rattle.bound_table.specs.Laws.{EndsLine}

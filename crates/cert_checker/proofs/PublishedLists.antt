@@ -1,5 +1,5 @@
 -- The cuts of a published list: `all` stands in the last record alone.
-use Rattle.std.proofs.Common.{◌≡◌, ℕ, zero, suc, ◌+◌, ◌-◌, ◌<◌, ◌≤◌, true, false, not, ◌⊎◌, inl, inr, IsTrue, IsFalse, List, [], ◌∷◌, ◌++◌, length, map, take, drop, refl, sym, arith, length-append, length-drop}
+use Rattle.std.proofs.Common.{◌≡◌, ℕ, zero, suc, ◌+◌, ◌-◌, ◌<◌, ◌≤◌, true, false, not, ◌⊎◌, inl, inr, IsTrue, IsFalse, List, [], ◌∷◌, ◌++◌, length, map, take, drop, refl, arith, length-append, length-drop}
 use Rattle.std.proofs.lemmas.Bool.{and_from, and_parts, cases_lt, not-true, or_from, or_parts}
 use Rattle.addr_bits.specs.Prefix.{Cidr}
 use Rattle.addr_bits.specs.declared.address.Family.{Family}

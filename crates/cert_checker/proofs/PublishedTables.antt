@@ -1,42 +1,32 @@
 -- The rows of needs, as they are placed in a fragment, are a good table for the verdicts of the chosen list.
-use Rattle.std.proofs.Common.{◌≡◌, ℕ, zero, suc, ◌+◌, ◌*◌, ◌<◌, ◌≤◌, ◌^◌, true, false, ◌⊎◌, inl, inr, List, [], ◌∷◌, ◌++◌, length, refl, sym, ap, subst, ◌∙◌, arith, le_refl}
-use Rattle.std.specs.List.{Contains, list_any}
-use Rattle.std.proofs.lemmas.Bool.{cases_Bool}
-use Rattle.std.proofs.lemmas.List.Elements.{Contains-append_cases, Contains-append_right}
+use Rattle.std.proofs.Common.{◌≡◌, ℕ, ◌+◌, ◌<◌, ◌≤◌, ◌^◌, ◌⊎◌, inl, inr, List, [], ◌∷◌, ◌++◌, length, refl, sym, subst, ◌∙◌, arith}
+use Rattle.std.specs.List.{Contains}
+use Rattle.std.proofs.lemmas.List.Elements.{Contains-append_right}
 use Rattle.addr_bits.specs.Address.{bits_of}
-use Rattle.addr_bits.specs.Blocks.{lowest, prefix_of}
 use Rattle.addr_bits.specs.Prefix.{IsCidr}
 use Rattle.addr_bits.specs.declared.address.Family.{Family}
 use Rattle.addr_bits.specs.declared.address.Family.TheVariants as family
 use Rattle.spf_grammar.specs.declared.flat.FlatTerm.{FlatTerm}
 use Rattle.spf_grammar.specs.declared.verdict.Verdict.{Verdict}
 use Rattle.fewest_terms.specs.Chosen.{chosen_list}
-use Rattle.fewest_terms.specs.Needs.{is_mixed}
 use Rattle.fewest_terms.specs.Row.{NeedRow}
-use Rattle.fewest_terms.specs.Tables.{IsGoodTable, need_rows, needs_of}
+use Rattle.fewest_terms.specs.Tables.{IsGoodTable, need_rows}
 use Rattle.fewest_terms.specs.Totals.{total}
 use Rattle.fewest_terms.proofs.AnswerLemmas.{list-gives4, list-gives6}
-use Rattle.fewest_terms.proofs.Mixed.{one-plain}
-use Rattle.fewest_terms.proofs.TableLemmas.{need_rows-good, need_rows-mixed, need_rows-plain}
-use Rattle.fewest_terms.proofs.TrieLeaves.{lowest-both, lowest-next, prefix_of-IsCidr}
+use Rattle.fewest_terms.proofs.TableLemmas.{need_rows-good}
 use Rattle.fewest_terms.proofs.Whole.{below_all}
-use Rattle.bound_table.specs.Laws.{AreWritable, EndsLine}
+use Rattle.bound_table.specs.Laws.{AreWritable}
 use Rattle.bound_table.specs.Lines.{table_text}
-use Rattle.bound_table.specs.Parts.{AreSmall}
 use Rattle.bound_table.specs.Placed.{PlacedRow, placed_from, rows_of}
-use Rattle.bound_table.specs.Reading.{is_table_line, lines_of}
+use Rattle.bound_table.specs.Reading.{lines_of}
 use Rattle.bound_table.proofs.ReadBack.{placed-rows, written_is_read}
 use Rattle.published_records.proofs.SameVerdicts.{Agree, rows_same, total_same}
-use Rattle.cert_checker.specs.Published.{AreSmallRows}
 use Rattle.cert_checker.specs.Reasons.{HasTable, verdicts_in}
 use Rattle.cert_checker.proofs.ListVerdicts.{within_is}
 use Rattle.cert_checker.proofs.PublishedLines.{AreOther}
+use Rattle.cert_checker.proofs.PublishedRows.{AreSmallRows, one_of, rows_prefix}
 
 -- ---- rows and the lines that they stand in
-
-one_of : {X : Type 0} (x : X) (xs : List X) (y : X) → Contains (x ∷ xs) y → (x ≡ y) ⊎ Contains xs y
-one_of x xs y (zero, within, e) = inl e
-one_of x xs y (suc k, within, e) = inr (k, omega (arith, within), e)
 
 record IsPlaced (from : ℕ) (rows : List NeedRow) (p : PlacedRow) : Type 0 where
   stands : Contains rows p.row
@@ -53,36 +43,10 @@ placed from (row ∷ rows) p c = by (one_of (record { line = from; row = row }) 
         let behind = rest more in
         record { stands = Contains-append_right (row ∷ []) rows p.row behind.stands; low = omega (arith, behind.low); high = omega (arith, behind.high) }
 
--- ---- the prefixes of the rows
-
-no_row : (row : NeedRow) → Contains [] row → ⊥
-no_row row (k, within, e) = omega (arith, within)
-
-rows_prefix : (w : ℕ) (first : NeedRow) (low high : List NeedRow) → IsCidr w first.prefix → ((row : NeedRow) → Contains low row → IsCidr w row.prefix)
-    → ((row : NeedRow) → Contains high row → IsCidr w row.prefix) → (row : NeedRow) → Contains (first ∷ (low ++ high)) row → IsCidr w row.prefix
-rows_prefix w first low high own of_low of_high row c = elim (one_of first (low ++ high) row c) [
-  | inl e ↦ subst (λ (r : NeedRow). IsCidr w r.prefix) e own
-  | inr more ↦ elim (Contains-append_cases low high row more) [
-    | inl l ↦ of_low row l
-    | inr h ↦ of_high row h
-  ]
-]
-
-row_prefix : (w : ℕ) (v : ℕ → Verdict) (k n : ℕ) → k ≤ w → lowest k (n + 1) ≤ 2 ^ w → (row : NeedRow) → Contains (need_rows w v k n) row → IsCidr w row.prefix
-row_prefix w v zero n h l row c = absurd (no_row row (subst (λ rows. Contains rows row) (need_rows-plain w v zero n (one-plain v n)) c))
-row_prefix w v (suc k) n h l row c = elim (cases_Bool (is_mixed v (suc k) n)) [
-  | inr m ↦ absurd (no_row row (subst (λ rows. Contains rows row) (need_rows-plain w v (suc k) n m) c))
-  | inl m ↦ rows_prefix w (record { prefix = prefix_of w (suc k) n; needs = needs_of v (suc k) n }) (need_rows w v k (2 * n)) (need_rows w v k (2 * n + 1)) (prefix_of-IsCidr w (suc k) n h l)
-      (row_prefix w v k (2 * n) (omega (arith, h)) (omega (arith, l, lowest-both k n, lowest-next k (2 * n + 1))))
-      (row_prefix w v k (2 * n + 1) (omega (arith, h)) (omega (arith, l, lowest-both k n)))
-      row (subst (λ rows. Contains rows row) (need_rows-mixed w v k n m) c)
-]
-
-whole : (w : ℕ) → lowest w (0 + 1) ≡ 2 ^ w
-whole w = grind arith
+-- ---- all of them can be written
 
 writable : (f : Family) (w : ℕ) (v : ℕ → Verdict) → w ≡ bits_of f → AreSmallRows (need_rows w v w 0) → AreWritable f (need_rows w v w 0)
-writable f w v e small row c = (subst (λ b. IsCidr b row.prefix) e (row_prefix w v w 0 (le_refl w) (omega (arith, whole w)) row c), small row c)
+writable f w v e small row c = (subst (λ b. IsCidr b row.prefix) e (rows_prefix w v row c), small row c)
 
 -- ---- the verdicts of the chosen list
 

@@ -1,6 +1,5 @@
 -- The bytes that were published of a policy, as statements.
-use Rattle.std.specs.Prelude.{◌≡◌, ℕ, ◌<◌, ◌≤◌, ◌^◌, List, length}
-use Rattle.std.specs.List.{Contains}
+use Rattle.std.specs.Prelude.{◌≡◌, ℕ, ◌≤◌, List, length}
 use Rattle.zone_answers.specs.Zone.{Zone}
 use Rattle.spf_grammar.specs.declared.verdict.Verdict.{Verdict}
 use Rattle.spf_model.specs.Result.{AllHave}
@@ -8,10 +7,8 @@ use Rattle.spf_model.specs.Run.{says}
 use Rattle.spf_model.specs.declared.outcome.Limits.{Limits}
 use Rattle.policy_verdicts.specs.Policy.{verdict_at}
 use Rattle.fewest_terms.specs.Chosen.{chosen_list}
-use Rattle.fewest_terms.specs.Row.{NeedRow}
 use Rattle.fewest_terms.specs.Tables.{need_rows}
 use Rattle.fewest_terms.specs.Totals.{total}
-use Rattle.bound_table.specs.Parts.{AreSmall}
 use Rattle.record_pack.specs.Records.{HasFewest, IsFittingCut}
 use Rattle.zone_writer.specs.Fragment.{fragment_text}
 use Rattle.zone_writer.specs.Written.{AreChainWords}
@@ -20,13 +17,9 @@ use Rattle.cert_checker.specs.Reasons.{IsReason, others_at}
 use Rattle.cert_checker.specs.declared.answer.No.{No}
 use Rattle.cert_checker.specs.declared.answer.No.TheVariants.{Memory}
 
--- project's own format: no number of the rows is above 4,294,967,295
-abbrev pub AreSmallRows : List NeedRow → Type 0
-AreSmallRows rows = (row : NeedRow) → Contains rows row → AreSmall row.needs
-
 -- project's own choice of what is published of a policy: the chosen list of the verdicts that check_host gives over the
 -- zones, in records that fit beside the other texts at the domain, of which no cut that fits has fewer, and behind them
--- the table of needs, with no number that is too large
+-- the table of needs
 pub record IsPublished (zones : List Zone) (limits : Limits) (domain label : List ℕ) (ttl size : ℕ)
     (bytes : List ℕ) : Type 0 where
   pub v4 : ℕ → Verdict
@@ -38,9 +31,6 @@ pub record IsPublished (zones : List Zone) (limits : Limits) (domain label : Lis
   pub verdicts : AllHave (says zones) limits domain (verdict_at v4 v6)
   pub fits : IsFittingCut domain label size (others_at zones domain) (chosen_list v4 v6) ends
   pub fewest : HasFewest domain label size (others_at zones domain) (chosen_list v4 v6) ends
-  pub small4 : AreSmallRows (need_rows 32 v4 32 0)
-  pub small6 : AreSmallRows (need_rows 128 v6 128 0)
-  pub small : total v4 v6 < 2 ^ 32
   pub written : bytes ≡ fragment_text domain label ttl (chosen_list v4 v6) ends (need_rows 32 v4 32 0)
       (need_rows 128 v6 128 0) (total v4 v6)
 

@@ -13,8 +13,7 @@ pub fn no_reason_beside_yes()
 {}
 
 /// What was published of a policy is certified, with its own numbers of terms and of records, and no reason holds of
-/// it: over the same zones, under the same limits and for the same size, and where no number of its table is above
-/// 4,294,967,295.
+/// it: over the same zones, under the same limits and for the same size.
 pub fn published_is_certified()
     ensures certified { PublishedIsCertified }
     ensures reason { PublishedHasNoReason }
