@@ -20,7 +20,7 @@ use Rattle.bound_table.specs.Lines.{table_text}
 use Rattle.bound_table.specs.Placed.{PlacedRow, placed_from, rows_of}
 use Rattle.bound_table.specs.Reading.{lines_of}
 use Rattle.bound_table.proofs.ReadBack.{placed-rows, written_is_read}
-use Rattle.published_records.proofs.SameVerdicts.{Agree, rows_same, total_same}
+use Rattle.policy_verdicts.proofs.SameVerdicts.{Agree, rows_same, total_same}
 use Rattle.cert_checker.specs.Reasons.{HasTable, verdicts_in}
 use Rattle.cert_checker.proofs.ListVerdicts.{within_is}
 use Rattle.cert_checker.proofs.PublishedLines.{AreOther}

@@ -2,3 +2,4 @@ pub mod Evaluations
 pub mod OneAnswer
 pub mod OrderedLists
 pub mod OrderedQuestions
+pub mod SameVerdicts

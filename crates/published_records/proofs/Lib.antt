@@ -1,7 +1,6 @@
 pub mod Publishing
 pub mod RecordChains
 pub mod RecordTexts
-pub mod SameVerdicts
 pub mod StandingAlone
 pub mod StandingFound
 pub mod StandingLists

@@ -15,7 +15,7 @@ use Rattle.loading.specs.declared.refusal.Refusal.TheVariants.{Taken}
 use Rattle.publishing.specs.Published.{IsChosenCut, IsFirstTaken, AreFree, fragment_of, name_text, OnePublication}
 use Rattle.publishing.specs.Published.{ListDue, too_big, taken, written, PublicationDue, alias, packed}
 use Rattle.publishing.specs.declared.settings.ChainSettings.{ChainSettings}
-use Rattle.published_records.proofs.SameVerdicts.{Agree, rows_same, total_same, chosen_list_same}
+use Rattle.policy_verdicts.proofs.SameVerdicts.{Agree, rows_same, total_same, chosen_list_same}
 
 -- ---- one cut is chosen
 one_rest : (want : ChainSettings) (others : ℕ) (list : List FlatTerm) (k from : ℕ) (a b : List ℕ) → length a ≡ length b → RiseTo from (length list) a → RiseTo from (length list) b →
