@@ -31,6 +31,7 @@ _FAULTS = [
     Fault("nxe", outcomes=(("192.0.2.30", "pass"), ("192.0.2.31", "fail"))),
     Fault("eight", outcomes=(("192.0.2.3", "pass"),)),
     Fault("nine", outcomes=(("192.0.2.3", "temperror alias hand0.fake.test 0"),)),
+    Fault("deadnine", outcomes=(("192.0.2.3", "temperror alias d0.fake.test 0"),)),
     Fault("dead", "no answer servfail.fake.test TXT: SERVFAIL"),
     Fault("black", outcomes=(("192.0.2.1", "pass"), ("192.0.2.2", "fail")), options=()),
     Fault("xservfail", "no answer servfail.fake.test TXT: SERVFAIL"),
@@ -58,12 +59,12 @@ _USAGE = [
 ]
 
 
-def checks(scene: Scene, bad: servers.Server) -> Iterator[Callable[[], Report]]:
-    """All checks. The server `bad` is the one that misbehaves."""
+def checks(scene: Scene, bad: servers.Server) -> Iterator[tuple[str, Callable[[], Report]]]:
+    """All checks with their names. The server `bad` is the one that misbehaves."""
     for fault in _FAULTS:
-        yield partial(_misbehaving, fault, scene, bad)
+        yield f"{fault.domain}.fake.test", partial(_misbehaving, fault, scene, bad)
     for check in (_unanswered, _words, _held, _twice, _written, _closed):
-        yield partial(check, scene)
+        yield check.__name__.removeprefix("_"), partial(check, scene)
 
 
 def _misbehaving(fault: Fault, scene: Scene, bad: servers.Server) -> Report:
@@ -171,6 +172,10 @@ def _closed(scene: Scene) -> Report:
     scene.gather("nx.test", "-o", "gathered", folder=folder)
     for domain in ("other.test", "a.nx.test", "below.gone.nx.test", "ent.nx.test", "not-gathered.invalid", "x.invalid"):
         found = scene.spfc("check", domain, "192.0.2.1", ".=gathered", folder=folder)
+        report.expect(f"closed: {domain}", f"open outside {domain} 0\n", found.output)
+    scene.gather("wild.test", "-o", "wild", folder=folder)
+    for domain in ("deep.wild.test", "below.host.deep.wild.test", "other.wild.test"):
+        found = scene.spfc("check", domain, "192.0.2.1", ".=wild", folder=folder)
         report.expect(f"closed: {domain}", f"open outside {domain} 0\n", found.output)
     found = scene.spfc("check", "gone.nx.test", "192.0.2.1", ".=gathered", folder=folder)
     report.expect("a name that does not exist", "none norecord gone.nx.test 0\n", found.output)

@@ -11,7 +11,7 @@ _POLICY = "v=spf1 mx include:_spf.mailone.example include:spf.mailtwo.example ip
 _HEAD = """@ 300 IN SOA ns h 1 7200 900 1209600 1
 @ 300 IN NS ns
 ns 300 IN A 192.0.2.53
-@ 0 IN TXT "site=1234"
+@ 0 IN TXT "site=123456789 123456789 123456789 123456789 123456789 123456789 123456789 123456789 123456789"
 @ 0 IN MX 10 ns
 ns 0 IN AAAA 2001:db8::53
 """
@@ -66,6 +66,13 @@ class Nights:
         ended = self.scene.spfc("compile", _DOMAIN, "--ttl", "300", *words, f".={zone}")
         return ended.output or ended.line
 
+    def wanted(self, *words: str) -> str:
+        """What compile gives over the zones themselves, with the policy in that of the domain."""
+        own = self.folder / "own"
+        own.write_text(_HEAD + f'@ 0 IN TXT "{_POLICY.strip()}"\n')
+        firms = [f"{path.name}={path}" for path in sorted(self._zones.iterdir()) if path.name != _DOMAIN]
+        return self.scene.spfc("compile", _DOMAIN, "--ttl", "300", *words, f"{_DOMAIN}={own}", *firms).output
+
     def night(self, *words: str) -> tuple[int, str, str]:
         """The status, the first line, and what was written."""
         new = self.folder / "new"
@@ -105,6 +112,7 @@ def _nights(nights: Nights, report: Report) -> None:
     status, line, new = nights.night()
     report.expect("night 3, changed", (1, f"changed {_DOMAIN}", 3), (status, line, new.count("IN TXT")))
     report.expect("night 3, the other label", (False, True), ("_spfa1" in new, f"redirect=_spfb1.{_DOMAIN}" in new))
+    report.expect("night 3, the fragment", nights.wanted("--label", "_spfb"), new)
     nights.serve(_HEAD, new, chain)
     lines = f"refused {_DOMAIN} | published: refused 0.0.0.0 records {_DOMAIN} 0 | refused taken 1 _spfa1.{_DOMAIN}"
     report.expect("two records", (2, lines, ""), nights.night())
