@@ -12,7 +12,7 @@ from admin.ending import Ending, Status
 from admin.looking import Looker, wrong_words
 from admin.program import USAGE, Program, Run, opened_program
 from admin.reading_lines import OUTCOME, VERDICT, Line, read_line
-from admin.tables import CAUSES, KINDS, LINES, STATUSES, Entry
+from admin.tables import CAUSES, KINDS, LINES, REASONS, STATUSES, Entry
 
 TOOL = "spfc-explain"
 _NOT_KNOWN = 2
@@ -35,7 +35,7 @@ def explained(line: Line, looked: Iterable[str] = ()) -> Iterator[str]:
         yield f"What it means: {entry.meaning}."
     if line.form == OUTCOME:
         yield _WAYS[line.text.partition(" ")[0]]
-    elif "ADDRESS" in line.words:
+    elif line.form.startswith("refused ADDRESS"):
         yield f"The least address that has no verdict: {line.words['ADDRESS']}."
     yield from looked
     yield f"What helps: {entries[-1].help}."
@@ -46,7 +46,8 @@ def _entries(line: Line) -> list[Entry]:
     if line.cause is not None:
         return [CAUSES[line.cause].plain]
     kind = line.words.get("KIND", "")
-    return [LINES[line.form].plain, *([KINDS[kind].plain] if kind in KINDS else [])]
+    entry = LINES.get(line.form) or REASONS[line.form]
+    return [entry.plain, *([KINDS[kind].plain] if kind in KINDS else [])]
 
 
 def explain_line(text: str) -> int:
@@ -65,11 +66,13 @@ def explain_run(program: Program, given: list[str]) -> int:
     if ended.status == USAGE:
         looked = [f"Without these words the others give a job: {words}" for words in wrong_words(program, given)]
         print(
-            *explained(Line("usage", "usage", {}), [*looked, f"How they go: spfc {COMMANDS[given[0]].synopsis}"]),
+            *explained(
+                Line("usage", "usage", {}), [*looked, f"How they go: spfc {COMMANDS[given[0]].synopsis(given[0])}"]
+            ),
             sep="\n",
         )
         return Status.DONE
-    line, words = read_line(ended.line or _outcome(given, ended)), part(given)
+    line, words = read_line(_last_line(given, ended)), part(given)
     if ended.status in STATUSES:
         entry = STATUSES[ended.status].plain
         print(f"status {ended.status}", f"What it means: {entry.meaning}.", f"What helps: {entry.help}.", sep="\n")
@@ -83,8 +86,10 @@ def explain_run(program: Program, given: list[str]) -> int:
     return Status.DONE
 
 
-def _outcome(given: Sequence[str], ended: Run) -> str:
-    """The outcome that `check` printed."""
+def _last_line(given: Sequence[str], ended: Run) -> str:
+    """The line of the refusal, behind what listeners were told, or the outcome that `check` printed."""
+    if ended.status:
+        return ended.line.rpartition("\n")[2]
     return ended.output.rstrip("\n") if given[0] == "check" else ""
 
 

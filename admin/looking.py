@@ -5,7 +5,7 @@ from itertools import count
 from pathlib import Path
 
 from admin.asking import Asker
-from admin.commands import Words
+from admin.commands import READING, Words
 from admin.program import USAGE, Program
 from admin.reading_lines import Line, read_line
 from admin.texts import texts_at
@@ -36,6 +36,10 @@ class Looker:
             yield from self._size_that_does()
         elif line.form.startswith("bad zone"):
             yield from _lines_of(Path(line.words["FILE"]), int(line.words["LINE"]))
+        elif line.form.startswith("no zone"):
+            yield from _lines_of(Path(self._words.places[1]), int(line.words["LINE"]))
+        elif line.form.startswith("no verdict"):
+            yield from self._verdicts(line.words["ADDRESS"])
 
     def _record(self, name: str, term: int) -> Iterator[str]:
         """The SPF records at the name, their terms numbered, with the term marked."""
@@ -64,9 +68,9 @@ class Looker:
         cause, address = str(line.cause), self._address(line)
         others = [
             word
-            for name in ("lookups", "voids", "exchanges")
-            if name != cause
-            for word in self._words.option(f"--{name}")
+            for option in self._words.options
+            if option[0] in READING and option[0] != f"--{cause}"
+            for word in option
         ]
         shown = None
         for limit in range(_LEAST[cause], _MOST[cause] + 1):
@@ -113,6 +117,12 @@ class Looker:
                 outcome = self._asker.outcome(target.lower().removesuffix("."), self._address(line))
                 yield f"Asked for {target}, the files say: {outcome or 'no legal name'}"
 
+    def _verdicts(self, address: str) -> Iterator[str]:
+        """What the zones and the file give an address."""
+        file = Asker(self._program, (), [f"{self._domain}={self._words.places[1]}"])
+        yield f"By the zones {address} has: {self._asker.outcome(self._domain, address)}"
+        yield f"By the file it has: {file.outcome(self._domain, address)}"
+
     def _free_label(self) -> Iterator[str]:
         """A label under which no name is taken."""
         for letter in "abcdefghijklmnopqrstuvwxyz":
@@ -135,9 +145,7 @@ class Looker:
 
     def _compiled(self, option: str, value: str) -> str:
         """The line of the same command with another value of an option."""
-        words = self._words
-        options = [*words.without(option), option, value]
-        return self._program.run([words.command, *words.places, *options, *words.zones]).line
+        return self._program.run(self._words.with_options(option, option, value)).line
 
 
 def wrong_words(program: Program, given: list[str]) -> Iterator[str]:

@@ -103,6 +103,38 @@ LINES: Mapping[str, Entry] = {
     "read fault FILE": Entry("the file could not be read, as where it is a folder", "name a file that you may read"),
 }
 
+REASONS: Mapping[str, Entry] = {
+    "no zone LINE KIND": Entry(
+        "the file is no master file: the entry that begins on this line is the first that is broken or has no meaning",
+        "see the table by KIND below",
+    ),
+    "no chain": Entry(
+        "the file has other records than a chain: 1 to 11 TXT records at the domain, LABEL1, LABEL2 and so on, in this "
+        "order, of `ip4`, `ip6` and `all` terms, each leading to the next by `redirect`",
+        "take other records out of the file; a record with `a`, `mx` or `include` is no flat record: compile it",
+    ),
+    "no verdict ADDRESS": Entry(
+        "this is the least address to which the file gives another verdict than the zones",
+        "ask `check` for it, over the zones and over the file. Do not publish: the file is wrong, or the zones are not "
+        "those that it was made from",
+    ),
+    "no table LINE": Entry(
+        "the verdicts are right, but the table does not show that no list is shorter: this line is misspelled, "
+        "misplaced, wrong or missing",
+        "ask for the whole fragment with its comments, or make a table of your own: compile the file as the zone of the "
+        "domain",
+    ),
+    "no terms": Entry(
+        "the verdicts are right, and the table shows that the list is too long",
+        "compile the zones, or live with the longer list",
+    ),
+    "no records": Entry(
+        "a record takes more room than `--size` leaves, or fewer records would hold the list",
+        "name the size that the file was made for; else compile the zones",
+    ),
+}
+"""Why `verify` does not accept a file."""
+
 _FLAT = "write the zone out flat first: `named-compilezone -o flat example.com zone`"
 _OUT = "take these records out of the copy"
 _MEND = "mend the entry that begins on that line"
