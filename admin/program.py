@@ -26,12 +26,13 @@ class Run:
 
 
 def find_program() -> str:
-    """The program that the variable SPFC names, or else the one beside this tool, or else that of the path."""
+    """The program that the variable SPFC names, or else the one installed with this tool or beside it, or of the path."""
     if named := os.environ.get("SPFC"):
         return named
-    for folder in (Path(__file__).resolve().parents[1] / "bin", Path(__file__).resolve().parents[3] / "bin"):
-        if os.access(folder / "spfc", os.X_OK):
-            return str(folder / "spfc")
+    top = Path(__file__).resolve().parents[1]
+    for place in (top.parent.parent / "libexec/spfc/spfc", top / "bin/spfc"):
+        if os.access(place, os.X_OK):
+            return str(place)
     if found := shutil.which("spfc"):
         return found
     raise Ending(Status.TOOL, "there is no program spfc here; the variable SPFC may name it")

@@ -18,6 +18,7 @@ import faults
 import gather_cases
 import gather_checks
 import nightly_checks
+import package_checks
 import servers
 from scene import TOP, ZONES, Report, Scene
 
@@ -43,6 +44,7 @@ def _checks(scene: Scene, bad: servers.Server, *, are_all: bool) -> Iterator[tup
     yield "nightly", partial(nightly_checks.check, scene)
     yield from explain_checks.checks(scene)
     yield from gather_checks.checks(scene, bad)
+    yield from package_checks.checks(scene)
     for case in gather_cases.cases(are_all=are_all):
         yield case.name, partial(gather_cases.check, case, scene)
 
