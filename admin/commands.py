@@ -6,7 +6,7 @@ from dataclasses import dataclass
 
 @dataclass(frozen=True)
 class Option:
-    """An option: what its value is called (none for a flag), what it gives, its range, and its value where it is not written."""
+    """An option: what its value is called (none for a flag), what it gives, its range, and what holds without it."""
 
     value: str
     purpose: str

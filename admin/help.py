@@ -8,8 +8,8 @@ from pathlib import Path
 from admin.commands import COMMANDS, OPTIONS
 
 _PROVED = (
-    "Proved: the records that compile writes give every IPv4 and every IPv6 address the verdict that check_host (RFC 7208) "
-    "gives it over the files that were read, and no list of networks with these verdicts is shorter."
+    "Proved: the records that compile writes give every IPv4 and every IPv6 address the verdict that check_host "
+    "(RFC 7208) gives it over the files that were read, and no list of networks with these verdicts is shorter."
 )
 _TOOLS = {
     "spfc-gather": "asks DNS for all that a policy rests on, and writes it as one file",

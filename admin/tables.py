@@ -121,8 +121,8 @@ REASONS: Mapping[str, Entry] = {
     "no table LINE": Entry(
         "the verdicts are right, but the table does not show that no list is shorter: this line is misspelled, "
         "misplaced, wrong or missing",
-        "ask for the whole fragment with its comments, or make a table of your own: compile the file as the zone of the "
-        "domain",
+        "ask for the whole fragment with its comments, or make a table of your own: compile the file as the zone of "
+        "the domain",
     ),
     "no terms": Entry(
         "the verdicts are right, and the table shows that the list is too long",

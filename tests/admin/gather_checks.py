@@ -6,7 +6,7 @@ from functools import partial
 from pathlib import Path
 
 import servers
-from scene import Ended, Report, Scene
+from scene import ZONES, Ended, Report, Scene
 
 
 @dataclass(frozen=True)
@@ -63,7 +63,7 @@ def checks(scene: Scene, bad: servers.Server) -> Iterator[tuple[str, Callable[[]
     """All checks with their names. The server `bad` is the one that misbehaves."""
     for fault in _FAULTS:
         yield f"{fault.domain}.fake.test", partial(_misbehaving, fault, scene, bad)
-    for check in (_unanswered, _words, _held, _twice, _written, _closed):
+    for check in (_unanswered, _words, _held, _twice, _written, _closed, _beside):
         yield check.__name__.removeprefix("_"), partial(check, scene)
 
 
@@ -163,6 +163,38 @@ def _written(scene: Scene) -> Report:
 
 def _listed(folder: Path) -> list[str]:
     return sorted(file.name for file in folder.iterdir())
+
+
+def _beside(scene: Scene) -> Report:
+    """Zones of one's own beside the file: of these no server is asked, but for what leads out of them."""
+    report = Report()
+    folder = scene.folder("beside")
+    own = f"example.com={ZONES / 'example.com'}"
+    scene.gather("example.com", own, "-o", "gathered", folder=folder)
+    text = (folder / "gathered").read_text()
+    report.expect("nothing of it is asked", [], [line for line in text.splitlines() if "asked example.com" in line])
+    words = ["compile", "example.com", own]
+    wanted = scene.spfc(*words, *(f"{name}={ZONES / name}" for name in ("mailone.example", "mailtwo.example")))
+    report.expect("beside", wanted, scene.spfc(*words, ".=gathered", folder=folder))
+    # an alias that leads out of the zone beside, to a name that is gathered for it
+    deleg = f"sub.deleg.test={ZONES / 'sub.deleg.test'}"
+    scene.gather("deleg.test", deleg, "--size", "70", "-o", "deleg", folder=folder)
+    zones = [f"{name}={ZONES / name}" for name in ("deleg.test", "sub.deleg.test", "wild.test")]
+    words = ["compile", "deleg.test", "--size", "70"]
+    report.expect("an alias", scene.spfc(*words, *zones), scene.spfc(*words, deleg, ".=deleg", folder=folder))
+    # a policy of 14 includes, whose inner name is flat first
+    inner = scene.gather("d5.limit.test", "-o", "inner", folder=folder)
+    fragment = scene.spfc("compile", "d5.limit.test", "--size", "4096", ".=inner", folder=folder)
+    (folder / "flat").write_text(fragment.output)
+    outer = scene.gather("d1.limit.test", "d5.limit.test=flat", "-o", "outer", folder=folder)
+    report.expect("both are gathered", (0, 0), (inner.status, outer.status))
+    whole = [f"limit.test={ZONES / 'limit.test'}"]
+    wanted = scene.spfc("compile", "d1.limit.test", "--lookups", "20", *whole)
+    report.expect(
+        "over 10", wanted, scene.spfc("compile", "d1.limit.test", "d5.limit.test=flat", ".=outer", folder=folder)
+    )
+    report.expect("a zone word", 4, scene.gather("example.com", ".=x").status)
+    return report
 
 
 def _closed(scene: Scene) -> Report:
