@@ -20,12 +20,18 @@ class Entry:
         return Entry(self.meaning.replace("`", ""), self.help.replace("`", ""))
 
 
+_NO_LIST = 'such a policy has no list of networks: take the term out, or see "A policy with macros"'
+_COPY = (
+    "give a gathered file, or a copy with only the names that the policy asks for and what they answer, the TXT records of "
+    "the domain, and what stands at or below the names of the chain"
+)
+
 CAUSES: Mapping[str, Entry] = {
     "norecord": Entry("the domain has no SPF record", "write one, or compile another domain"),
     "outside": Entry(
         "an answer lies outside the zones that were read, or below a delegation: with TERM 0 that for NAME, with "
-        'another TERM one that this term asks for (see "Gather the zones")',
-        "read that zone too, or gather with the same options",
+        'another TERM one that this term asks for (see "Gather")',
+        "read that zone too; over a gathered file, gather with the options with which you compile",
     ),
     "lookups": Entry(
         "the term is one lookup too many",
@@ -45,18 +51,16 @@ CAUSES: Mapping[str, Entry] = {
     "target": Entry("what `a`, `mx` or `exists` asks for is no legal name", "mend the term"),
     "sender": Entry(
         "the term needs the sender's address (`%{s}`, `%{l}`, `%{o}`)",
-        "such a policy has no list of networks; take the term out",
+        _NO_LIST,
     ),
     "helo": Entry(
         "the term needs the name that the sending host gives (`%{h}`)",
-        "such a policy has no list of networks; take the term out",
+        _NO_LIST,
     ),
-    "address": Entry(
-        "the term needs the very address (`%{i}`)", "such a policy has no list of networks; take the term out"
-    ),
+    "address": Entry("the term needs the very address (`%{i}`)", _NO_LIST),
     "reverse": Entry(
         "the term needs the name of the address (`ptr`, `%{p}`)",
-        "such a policy has no list of networks; take the term out",
+        _NO_LIST,
     ),
 }
 
@@ -76,9 +80,9 @@ LINES: Mapping[str, Entry] = {
         'a larger `--size`, or fewer other texts at the domain; see "Size, and the other TXT records"',
     ),
     "usage": Entry(
-        "the words give no job: an option behind a zone word or written twice, `--size`, `--ttl` or `--label` for "
-        "`check`, a number out of range, a label that does not begin with `_`, a final dot on DOMAIN, no zone word, "
-        "two of one origin, more than 64, or LABEL10.DOMAIN longer than 253 characters",
+        "the words give no job: an option that the command does not take, that stands behind a zone word, or that is "
+        "written twice, a number out of range, a label that does not begin with `_`, a final dot on DOMAIN, no zone "
+        "word, two of one origin, more than 64, or LABEL10.DOMAIN longer than 253 characters",
         "mend the words; `spfc help COMMAND` has the synopsis",
     ),
     "no file FILE": Entry(
@@ -87,12 +91,9 @@ LINES: Mapping[str, Entry] = {
     ),
     "long file FILE": Entry(
         "the file has more than 8,388,608 bytes",
-        "give a gathered file, or a copy with only the names that the policy asks for and what they answer, the TXT "
-        "records of the domain, and what stands at or below the names of the chain",
+        _COPY,
     ),
-    "too many records ORIGIN": Entry(
-        "with this zone there are more than 65,536 different records", "as for `long file FILE`"
-    ),
+    "too many records ORIGIN": Entry("with this zone there are more than 65,536 different records", _COPY),
     "bad zone FILE LINE KIND": Entry(
         "the entry that begins on this line is the first that is broken or has no meaning", "see below, by KIND"
     ),
