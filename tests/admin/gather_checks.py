@@ -63,7 +63,7 @@ def checks(scene: Scene, bad: servers.Server) -> Iterator[tuple[str, Callable[[]
     """All checks with their names. The server `bad` is the one that misbehaves."""
     for fault in _FAULTS:
         yield f"{fault.domain}.fake.test", partial(_misbehaving, fault, scene, bad)
-    for check in (_unanswered, _words, _held, _twice, _written, _closed, _beside):
+    for check in (_unanswered, _words, _held, _twice, _written, _closed, _beside, _dname):
         yield check.__name__.removeprefix("_"), partial(check, scene)
 
 
@@ -194,6 +194,20 @@ def _beside(scene: Scene) -> Report:
         "over 10", wanted, scene.spfc("compile", "d1.limit.test", "d5.limit.test=flat", ".=outer", folder=folder)
     )
     report.expect("a zone word", 4, scene.gather("example.com", ".=x").status)
+    return report
+
+
+def _dname(scene: Scene) -> Report:
+    """The aliases that a server makes of a DNAME record are written as they are; the domain may be one."""
+    report = Report()
+    folder = scene.folder("dname")
+    scene.gather("dname.test", "-o", "gathered", folder=folder)
+    for address, outcome in {"192.0.2.5": "pass", "192.0.2.53": "pass", "192.0.2.54": "fail"}.items():
+        found = scene.spfc("check", "dname.test", address, ".=gathered", folder=folder)
+        report.expect(f"dname {address}", f"{outcome}\n", found.output)
+    scene.gather("a.old.dname.test", "-o", "alias", folder=folder)
+    found = scene.spfc("compile", "a.old.dname.test", ".=alias", folder=folder)
+    report.expect("an alias of its own", "refused alias a.old.dname.test", found.line)
     return report
 
 

@@ -32,7 +32,8 @@ def checks(scene: Scene) -> Iterator[tuple[str, Callable[[], Report]]]:
     yield "commands", lambda: _commands(scene)
     yield "help", lambda: _help(scene)
     yield "man", _man
-    yield "package", lambda: _package(scene)
+    if shutil.which("dpkg-deb"):
+        yield "package", lambda: _package(scene)
 
 
 def _commands(scene: Scene) -> Report:

@@ -102,8 +102,11 @@ def _skips(arguments: argparse.Namespace) -> bool:
     """Says what is skipped, and whether that is all."""
     if arguments.nsd and not servers.has_tool("nsd"):
         print("test-admin: nsd is not installed: nothing is gathered from it")
+    for tool, skipped in (("mandoc", "the man pages are not looked at"), ("dpkg-deb", "no package is made")):
+        if not servers.has_tool(tool):
+            print(f"test-admin: {tool} is not installed: {skipped}")
     if not servers.has_tool("named"):
-        print("test-admin: bind9 is not installed: the tools that ask name servers are not tried")
+        print("test-admin: bind9 is not installed: the tools for administrators are not tried")
         return True
     return False
 
@@ -114,6 +117,9 @@ def main() -> int:
     signal.signal(signal.SIGTERM, lambda *_: sys.exit(1))
     if _skips(arguments):
         return 0
+    if not os.access(arguments.program, os.X_OK):
+        print(f"test-admin: there is no program {arguments.program}")
+        return 1
     begun = time.monotonic()
     with ExitStack() as stack:
         scratch = Path(stack.enter_context(tempfile.TemporaryDirectory(prefix="spfc-admin-")))
