@@ -6,6 +6,7 @@
 
 import sys
 from collections.abc import Iterable, Iterator, Sequence
+from pathlib import Path
 
 from admin.commands import COMMANDS, part
 from admin.ending import Ending, Status
@@ -98,6 +99,8 @@ def main(given: Sequence[str]) -> int:
     if given and given[0] in ("-h", "--help"):
         print(__doc__, end="")
         return Status.DONE
+    if given and Path(given[0]).name == "spfc":
+        given = given[1:]
     if given and given[0] in COMMANDS:
         with opened_program() as program:
             return explain_run(program, list(given))

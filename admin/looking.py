@@ -43,8 +43,7 @@ class Looker:
 
     def _record(self, name: str, term: int) -> Iterator[str]:
         """The SPF records at the name, their terms numbered, with the term marked."""
-        texts = texts_at(name, self._domain, self._words.reading, self._words.zones, self._program)
-        for text in texts:
+        for text in self._texts(name):
             yield f"The record at {name}:"
             for number, part in enumerate(text.split()[1:], 1):
                 yield f"{'-->' if number == term else '   '} {number:3} {part}"
@@ -86,7 +85,7 @@ class Looker:
 
     def _misspelled(self, name: str) -> Iterator[str]:
         """The terms that break the grammar, each alone or behind those before it."""
-        for text in texts_at(name, self._domain, self._words.reading, self._words.zones, self._program):
+        for text in self._texts(name):
             terms = text.split(" ")[1:]
             alone = [term for term in terms if term and self._asker.is_misspelled(f"v=spf1 {term}")]
             for term in alone:
@@ -108,14 +107,17 @@ class Looker:
 
     def _missing(self, line: Line) -> Iterator[str]:
         """What the name of an include or a redirect has."""
-        texts = texts_at(line.words["NAME"], self._domain, self._words.reading, self._words.zones, self._program)
-        terms = [text.split()[1:] for text in texts]
-        number = int(line.words["TERM"]) - 1
-        for part in terms:
-            target = part[number].partition(":")[2] or part[number].partition("=")[2]
-            if "%" not in target:
+        number = int(line.words["TERM"])
+        for text in self._texts(line.words["NAME"]):
+            term = dict(enumerate(text.split())).get(number, "")
+            target = term.partition(":")[2] or term.partition("=")[2]
+            if target and "%" not in target:
                 outcome = self._asker.outcome(target.lower().removesuffix("."), self._address(line))
                 yield f"Asked for {target}, the files say: {outcome or 'no legal name'}"
+
+    def _texts(self, name: str) -> list[str]:
+        """The SPF texts at the name."""
+        return texts_at(name, self._domain, self._words.reading, self._words.zones, self._program)
 
     def _verdicts(self, address: str) -> Iterator[str]:
         """What the zones and the file give an address."""
