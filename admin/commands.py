@@ -1,44 +1,78 @@
-"""The commands of spfc and their words, for help, for spfc-explain and for completion."""
+"""The commands of spfc and their words: one table for help, for spfc-explain and for the completion of shells."""
 
 from collections.abc import Mapping, Sequence
 from dataclasses import dataclass
 
+
+@dataclass(frozen=True)
+class Option:
+    """An option: what its value is called (none for a flag), what it gives, its range, and what holds without it."""
+
+    value: str
+    purpose: str
+    range: str = ""
+    default: str = ""
+
+    @property
+    def is_flag(self) -> bool:
+        """Whether no value follows it."""
+        return not self.value
+
+
+OPTIONS: Mapping[str, Option] = {
+    "--lookups": Option("N", "the most terms that ask the DNS", "10 to 20", "10"),
+    "--voids": Option("N", "the most of them that get a void answer", "2 to 20", "2"),
+    "--exchanges": Option("N", "the most exchanges of an mx term", "10 to 100", "10"),
+    "--size": Option("N", "what a record takes is less than this, in octets", "64 to 4,096", "450"),
+    "--ttl": Option("N", "the TTL of the records, in seconds", "0 to 2,147,483,647", "3,600"),
+    "--label": Option(
+        "L", "what the names behind the first begin with", "_ and up to 60 letters, digits, - and _", "_spf"
+    ),
+    "--trace": Option("", "tells each question of deps on standard error"),
+}
 READING = ("--lookups", "--voids", "--exchanges")
-CHAIN = ("--size", "--ttl", "--label")
-_READING_TEXT = "[--lookups N] [--voids N] [--exchanges N]"
-_CHAIN_TEXT = "[--size N] [--ttl N] [--label L]"
-ZONES = "ORIGIN=FILE.."
+WITH = "with"
+"""The word between the zones of two policies."""
+_ZONES = "ORIGIN=FILE.."
 
 
 @dataclass(frozen=True)
 class Command:
-    """A command: its words in front of the options, its options, and what goes to standard output."""
+    """A command: its words in front of the options, its options, the words behind them, and what it is for."""
 
     places: tuple[str, ...]
     options: tuple[str, ...]
-    synopsis: str
+    behind: str
     purpose: str
+
+    def synopsis(self, name: str) -> str:
+        """How the words go."""
+        options = (f"[{option} {OPTIONS[option].value}".rstrip() + "]" for option in self.options)
+        return " ".join([name, *self.places, *options, self.behind]).rstrip()
 
 
 COMMANDS: Mapping[str, Command] = {
     "compile": Command(
         ("DOMAIN",),
-        READING + CHAIN,
-        f"compile DOMAIN {_CHAIN_TEXT} {_READING_TEXT} {ZONES}",
+        (*READING, "--size", "--ttl", "--label", "--trace"),
+        _ZONES,
         "the records to publish: a shortest list with the verdicts of the policy, in the fewest records",
     ),
-    "check": Command(
-        ("DOMAIN", "ADDRESS"),
+    "check": Command(("DOMAIN", "ADDRESS"), READING, _ZONES, "what the policy says of an address"),
+    "deps": Command(("DOMAIN",), READING, _ZONES, "the questions to the DNS on which the policy rests"),
+    "compare": Command(
+        ("DOMAIN", "DOMAIN"),
         READING,
-        f"check DOMAIN ADDRESS {_READING_TEXT} {ZONES}",
-        "what the policy says of an address",
+        f"{_ZONES} [{WITH} {_ZONES}]",
+        "for which addresses two policies, or one before and after a change, have different verdicts",
     ),
-    "deps": Command(
-        ("DOMAIN",),
-        READING,
-        f"deps DOMAIN {_READING_TEXT} {ZONES}",
-        "the questions to the DNS on which the policy rests",
+    "verify": Command(
+        ("DOMAIN", "FILE"),
+        (*READING, "--size"),
+        _ZONES,
+        "whether records that anyone wrote say the same, and are fewest",
     ),
+    "trial": Command(("START", "N"), (), "", "how large the answer is for a policy of N networks that START makes"),
 }
 
 
@@ -48,25 +82,27 @@ class Words:
 
     command: str
     places: Sequence[str]
-    options: Sequence[str]
+    options: Sequence[tuple[str, ...]]
     zones: Sequence[str]
 
     @property
     def reading(self) -> list[str]:
         """The reading options with their values."""
-        return [word for name in READING for word in self.option(name)]
+        return [word for option in self.options if option[0] in READING for word in option]
 
-    def option(self, name: str) -> list[str]:
-        """An option with its value, where it is written."""
-        return list(self.options[(at := self.options.index(name)) : at + 2]) if name in self.options else []
+    @property
+    def policies(self) -> list[tuple[str, Sequence[str]]]:
+        """The domain of each policy that is read, with the zone words over which it is."""
+        if self.command != "compare":
+            return [(self.places[0], self.zones)]
+        at = self.zones.index(WITH) if WITH in self.zones else len(self.zones)
+        first, others = self.zones[:at], self.zones[at + 1 :]
+        return list(zip(self.places, (first, others or first)))
 
-    def without(self, name: str) -> list[str]:
-        """The options but for this one."""
-        return [word for pair in zip(self.options[::2], self.options[1::2]) if pair[0] != name for word in pair]
-
-    def all(self) -> list[str]:
-        """All words again."""
-        return [self.command, *self.places, *self.options, *self.zones]
+    def with_options(self, dropped: str, *added: str) -> list[str]:
+        """All words, without this option and with these besides."""
+        kept = [word for option in self.options if option[0] != dropped for word in option]
+        return [self.command, *self.places, *kept, *added, *self.zones]
 
 
 def part(words: Sequence[str]) -> Words | None:
@@ -74,8 +110,10 @@ def part(words: Sequence[str]) -> Words | None:
     command = COMMANDS.get(words[0]) if words else None
     if command is None:
         return None
-    behind = 1 + len(command.places)
-    end = behind
-    while end < len(words) and words[end].startswith("--"):
-        end += 2
-    return Words(words[0], words[1:behind], words[behind:end], words[end:])
+    start = 1 + len(command.places)
+    rest, options = list(words[start:]), []
+    while rest and rest[0] in OPTIONS:
+        count = 1 if OPTIONS[rest[0]].is_flag else 2
+        options.append(tuple(rest[:count]))
+        del rest[:count]
+    return Words(words[0], words[1:start], options, rest)

@@ -5,14 +5,15 @@
 """
 
 import sys
-from collections.abc import Iterator, Sequence
+from collections.abc import Iterable, Iterator, Sequence
+from pathlib import Path
 
 from admin.commands import COMMANDS, part
 from admin.ending import Ending, Status
 from admin.looking import Looker, wrong_words
-from admin.program import USAGE, Program, opened_program
+from admin.program import USAGE, Program, Run, opened_program
 from admin.reading_lines import OUTCOME, VERDICT, Line, read_line
-from admin.tables import CAUSES, KINDS, LINES, STATUSES, Entry
+from admin.tables import CAUSES, KINDS, LINES, REASONS, STATUSES, Entry
 
 TOOL = "spfc-explain"
 _NOT_KNOWN = 2
@@ -24,25 +25,30 @@ _WAYS = {
 }
 
 
-def explained(line: Line) -> Iterator[str]:
-    """What the line means, and what helps, by the tables."""
+def explained(line: Line, looked: Iterable[str] = ()) -> Iterator[str]:
+    """What the line means by the tables, what was found by looking into the files, and what helps."""
+    yield line.text
     if line.form == VERDICT:
         yield f"What it means: the address gets the verdict {line.text}."
         return
-    if line.form == OUTCOME:
-        yield _WAYS[line.text.partition(" ")[0]]
-    entries = [LINES[line.form].plain] if line.form in LINES else []
-    if line.cause is not None:
-        entries = [CAUSES[line.cause].plain]
-    if kind := line.words.get("KIND"):
-        entries.append(
-            KINDS[kind].plain if kind in KINDS else Entry("a kind of fault that is not known here", "see PROFILE")
-        )
+    entries = _entries(line)
     for entry in entries:
         yield f"What it means: {entry.meaning}."
-    if "ADDRESS" in line.words:
-        yield f"The least address that has no verdict: {line.words['ADDRESS']}"
+    if line.form == OUTCOME:
+        yield _WAYS[line.text.partition(" ")[0]]
+    elif line.form.startswith("refused ADDRESS"):
+        yield f"The least address that has no verdict: {line.words['ADDRESS']}."
+    yield from looked
     yield f"What helps: {entries[-1].help}."
+
+
+def _entries(line: Line) -> list[Entry]:
+    """The entries of the tables for a line, the one that says most at the end."""
+    if line.cause is not None:
+        return [CAUSES[line.cause].plain]
+    kind = line.words.get("KIND", "")
+    entry = LINES.get(line.form) or REASONS[line.form]
+    return [entry.plain, *([KINDS[kind].plain] if kind in KINDS else [])]
 
 
 def explain_line(text: str) -> int:
@@ -51,7 +57,7 @@ def explain_line(text: str) -> int:
     if line is None:
         print(f"This is no line of spfc: {text.strip()}")
         return _NOT_KNOWN
-    print(line.text, *explained(line), sep="\n")
+    print(*explained(line), sep="\n")
     return Status.DONE
 
 
@@ -59,32 +65,33 @@ def explain_run(program: Program, given: list[str]) -> int:
     """Runs a command, and explains what it says."""
     ended = program.run(given)
     if ended.status == USAGE:
-        print("usage", *_usage(program, given), sep="\n")
+        looked = [f"Without these words the others give a job: {words}" for words in wrong_words(program, given)]
+        print(
+            *explained(
+                Line("usage", "usage", {}), [*looked, f"How they go: spfc {COMMANDS[given[0]].synopsis(given[0])}"]
+            ),
+            sep="\n",
+        )
         return Status.DONE
-    text = ended.line or (ended.output.rstrip("\n") if given[0] == "check" else "")
-    line, words = read_line(text), part(given)
+    line, words = read_line(_last_line(given, ended)), part(given)
     if ended.status in STATUSES:
-        print(f"status {ended.status}", *_of_entry(STATUSES[ended.status]), sep="\n")
+        entry = STATUSES[ended.status].plain
+        print(f"status {ended.status}", f"What it means: {entry.meaning}.", f"What helps: {entry.help}.", sep="\n")
     elif line is not None and words is not None:
-        print(line.text, *Looker(program, words).look(line), *explained(line), sep="\n")
+        print(*explained(line, Looker(program, words).look(line)), sep="\n")
     elif ended.status == 0:
         print("The command has done its work: there is nothing to explain.")
     else:
-        print(ended.line)
+        print(f"This is not known here: {ended.line}")
         return _NOT_KNOWN
     return Status.DONE
 
 
-def _of_entry(entry: Entry) -> Iterator[str]:
-    yield f"What it means: {entry.plain.meaning}."
-    yield f"What helps: {entry.plain.help}."
-
-
-def _usage(program: Program, given: list[str]) -> Iterator[str]:
-    """Which word is wrong, and how the words of the command go."""
-    yield from (f"Without these words the others give a job: {words}" for words in wrong_words(program, given))
-    yield from _of_entry(LINES["usage"])
-    yield f"How the words go: spfc {COMMANDS[given[0]].synopsis}"
+def _last_line(given: Sequence[str], ended: Run) -> str:
+    """The line of the refusal, behind what listeners were told, or the outcome that `check` printed."""
+    if ended.status:
+        return ended.line.rpartition("\n")[2]
+    return ended.output.rstrip("\n") if given[0] == "check" else ""
 
 
 def main(given: Sequence[str]) -> int:
@@ -92,6 +99,8 @@ def main(given: Sequence[str]) -> int:
     if given and given[0] in ("-h", "--help"):
         print(__doc__, end="")
         return Status.DONE
+    if given and Path(given[0]).name == "spfc":
+        given = given[1:]
     if given and given[0] in COMMANDS:
         with opened_program() as program:
             return explain_run(program, list(given))

@@ -25,7 +25,7 @@ def not_asked(request: Request, path: Path, program: Program) -> list[str]:
     except OSError as error:
         raise Ending(Status.TOOL, f"{path}: {error.strerror}") from error
     lines = set(zone.splitlines())
-    asked = program.questions(request.domain, request.reading, zone)
+    asked = program.questions(request.domain, request.reading, zone, request.beside)
     missing = [f"not asked: {question}" for question in asked if _ASKED + question not in lines]
     if request.label is not None and _names_line(request.label) not in lines:
         first, last = names.printed(request.needed[0]), names.printed(request.needed[-1])
@@ -35,6 +35,8 @@ def not_asked(request: Request, path: Path, program: Program) -> list[str]:
 
 def _head(request: Request) -> Iterator[str]:
     yield f"; What DNS answers to the questions on which the SPF policy of {request.domain} rests. To be read as .=FILE"
+    if request.beside:
+        yield f"; To be read beside zones of {' '.join(word.partition('=')[0] for word in request.beside)}"
     if request.reading:
         yield f"; Reading options: {' '.join(request.reading)}"
     if request.policy is not None:

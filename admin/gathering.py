@@ -7,6 +7,7 @@ from dns.name import Name
 
 from admin import names, policy
 from admin.answers import Alias, Answer, Chain, Data, Facts, Void
+from admin.asking import Asker
 from admin.ending import Ending, Status
 from admin.program import Program
 from admin.progress import Progress
@@ -23,13 +24,17 @@ NEEDED_NAMES = 10
 
 @dataclass(frozen=True)
 class Request:
-    """What is gathered: the policy of a domain under some reading options, and whether the chain's names are free."""
+    """What is gathered: the policy of a domain under some reading options, and whether the chain's names are free.
+
+    The zone words `beside` name zones that are read beside the file, and of which DNS is asked nothing.
+    """
 
     domain: str
     reading: tuple[str, ...] = ()
     exchanges: int = 10
     label: str | None = None
     policy: str | None = None
+    beside: tuple[str, ...] = ()
 
     @property
     def name(self) -> Name:
@@ -41,7 +46,12 @@ class Request:
         """The names that a chain under the label may need, where they are asked for."""
         if self.label is None:
             return []
-        return [names.read(f"{self.label}{number}.{self.domain}") for number in range(1, NEEDED_NAMES + 1)]
+        needed = (names.read(f"{self.label}{number}.{self.domain}") for number in range(1, NEEDED_NAMES + 1))
+        return [name for name in needed if not self.is_beside(name)]
+
+    def is_beside(self, name: Name) -> bool:
+        """Whether the name is at or below the origin of a zone that is read beside the file."""
+        return any(name.is_subdomain(names.read(word.partition("=")[0])) for word in self.beside)
 
 
 @dataclass(frozen=True)
@@ -67,11 +77,12 @@ class Gathering:
         self._progress = progress
         self._facts = Facts()
         self._policy_answer: Answer | None = None
+        self._leading_out: set[str] = set()
         self._text = Question(request.name, Kind.TXT)
 
     def gather(self) -> Gathered:
         """The world of what spfc asks over it, or the end where one of these questions has no answer."""
-        questions = [self._text]
+        questions = [] if self._request.is_beside(self._request.name) else [self._text]
         for number in range(1, _MOST_ROUNDS + 1):
             self._ask_missing(questions, f"round {number}")
             asked = self._asked(self._world([*questions, *self._expected(questions)]), number)
@@ -97,11 +108,21 @@ class Gathering:
     def _asked(self, world: World, number: int) -> list[Question]:
         """What spfc asks over a world."""
         self._progress.tell(f"round {number}: what is asked")
-        zone = world.zone()
-        asked = read_questions(self._program.questions(self._request.domain, self._request.reading, zone))
+        request, zone = self._request, world.zone()
+        lines = self._program.questions(request.domain, request.reading, zone, request.beside)
+        asker = Asker(self._program, request.reading, self._program.zones(request.beside))
+        asked = read_questions(line for line in lines if not self._is_answered_beside(line, asker))
         if len(asked) > _MOST_QUESTIONS:
             raise Ending(Status.CONTRADICTION, f"more than {_MOST_QUESTIONS} questions")
         return asked
+
+    def _is_answered_beside(self, line: str, asker: Asker) -> bool:
+        """Whether a question of `deps` is answered by the zones beside the file, and never led out of them."""
+        if not self._request.is_beside(names.read(line.partition(" ")[0])):
+            return False
+        if asker.is_outside(line):
+            self._leading_out.add(line)
+        return line not in self._leading_out
 
     def _ask_missing(self, questions: list[Question], place: str) -> None:
         """Asks what is missing, and what the answers lead to, until nothing is."""

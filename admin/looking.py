@@ -1,11 +1,11 @@
 """Looks into the files and asks the program, to say more of a line than the line does."""
 
-from collections.abc import Iterator
+from collections.abc import Iterator, Sequence
 from itertools import count
 from pathlib import Path
 
 from admin.asking import Asker
-from admin.commands import Words
+from admin.commands import READING, Words
 from admin.program import USAGE, Program
 from admin.reading_lines import Line, read_line
 from admin.texts import texts_at
@@ -22,12 +22,26 @@ class Looker:
     def __init__(self, program: Program, words: Words) -> None:
         self._program = program
         self._words = words
-        self._asker = Asker(program, words.reading, words.zones)
-        self._domain = words.places[0]
+        self._take(*words.policies[0])
+
+    def _take(self, domain: str, zones: Sequence[str]) -> None:
+        """Looks into this policy from here on."""
+        self._domain, self._zones = domain, zones
+        self._asker = Asker(self._program, self._words.reading, zones)
+
+    def _take_refused(self, address: str) -> None:
+        """Looks into the first policy that gives the address no verdict."""
+        for domain, zones in self._words.policies:
+            self._take(domain, zones)
+            found = read_line(self._asker.outcome(domain, address))
+            if found is not None and found.cause is not None:
+                return
 
     def look(self, line: Line) -> Iterator[str]:
         """Lines that say more."""
         if line.cause is not None:
+            if len(self._words.policies) > 1:
+                self._take_refused(self._address(line))
             yield from self._record(line.words["NAME"], int(line.words["TERM"]))
             yield from self._of_cause(line)
         elif line.form.startswith("refused taken"):
@@ -36,11 +50,14 @@ class Looker:
             yield from self._size_that_does()
         elif line.form.startswith("bad zone"):
             yield from _lines_of(Path(line.words["FILE"]), int(line.words["LINE"]))
+        elif line.form.startswith("no zone"):
+            yield from _lines_of(Path(self._words.places[1]), int(line.words["LINE"]))
+        elif line.form.startswith("no verdict"):
+            yield from self._verdicts(line.words["ADDRESS"])
 
     def _record(self, name: str, term: int) -> Iterator[str]:
         """The SPF records at the name, their terms numbered, with the term marked."""
-        texts = texts_at(name, self._domain, self._words.reading, self._words.zones, self._program)
-        for text in texts:
+        for text in self._texts(name):
             yield f"The record at {name}:"
             for number, part in enumerate(text.split()[1:], 1):
                 yield f"{'-->' if number == term else '   '} {number:3} {part}"
@@ -64,9 +81,9 @@ class Looker:
         cause, address = str(line.cause), self._address(line)
         others = [
             word
-            for name in ("lookups", "voids", "exchanges")
-            if name != cause
-            for word in self._words.option(f"--{name}")
+            for option in self._words.options
+            if option[0] in READING and option[0] != f"--{cause}"
+            for word in option
         ]
         shown = None
         for limit in range(_LEAST[cause], _MOST[cause] + 1):
@@ -82,7 +99,7 @@ class Looker:
 
     def _misspelled(self, name: str) -> Iterator[str]:
         """The terms that break the grammar, each alone or behind those before it."""
-        for text in texts_at(name, self._domain, self._words.reading, self._words.zones, self._program):
+        for text in self._texts(name):
             terms = text.split(" ")[1:]
             alone = [term for term in terms if term and self._asker.is_misspelled(f"v=spf1 {term}")]
             for term in alone:
@@ -97,21 +114,30 @@ class Looker:
 
     def _outside(self) -> Iterator[str]:
         """The questions that no file answers."""
-        asked = self._program.run(["deps", self._domain, *self._words.reading, *self._words.zones])
+        asked = self._program.run(["deps", self._domain, *self._words.reading, *self._zones])
         for question in asked.output.splitlines() if asked.status == 0 else ():
             if self._asker.is_outside(question):
                 yield f"No file answers this question: {question}"
 
     def _missing(self, line: Line) -> Iterator[str]:
         """What the name of an include or a redirect has."""
-        texts = texts_at(line.words["NAME"], self._domain, self._words.reading, self._words.zones, self._program)
-        terms = [text.split()[1:] for text in texts]
-        number = int(line.words["TERM"]) - 1
-        for part in terms:
-            target = part[number].partition(":")[2] or part[number].partition("=")[2]
-            if "%" not in target:
+        number = int(line.words["TERM"])
+        for text in self._texts(line.words["NAME"]):
+            term = dict(enumerate(text.split())).get(number, "")
+            target = term.partition(":")[2] or term.partition("=")[2]
+            if target and "%" not in target:
                 outcome = self._asker.outcome(target.lower().removesuffix("."), self._address(line))
                 yield f"Asked for {target}, the files say: {outcome or 'no legal name'}"
+
+    def _texts(self, name: str) -> list[str]:
+        """The SPF texts at the name."""
+        return texts_at(name, self._domain, self._words.reading, self._zones, self._program)
+
+    def _verdicts(self, address: str) -> Iterator[str]:
+        """What the zones and the file give an address."""
+        file = Asker(self._program, (), [f"{self._domain}={self._words.places[1]}"])
+        yield f"By the zones {address} has: {self._asker.outcome(self._domain, address)}"
+        yield f"By the file it has: {file.outcome(self._domain, address)}"
 
     def _free_label(self) -> Iterator[str]:
         """A label under which no name is taken."""
@@ -135,9 +161,7 @@ class Looker:
 
     def _compiled(self, option: str, value: str) -> str:
         """The line of the same command with another value of an option."""
-        words = self._words
-        options = [*words.without(option), option, value]
-        return self._program.run([words.command, *words.places, *options, *words.zones]).line
+        return self._program.run(self._words.with_options(option, option, value)).line
 
 
 def wrong_words(program: Program, given: list[str]) -> Iterator[str]:

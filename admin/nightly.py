@@ -168,6 +168,7 @@ def _parser() -> words.Parser:
     parser.add_argument("domain", metavar="DOMAIN", type=words.domain, help="the domain that publishes flat records")
     parser.add_argument("policy", metavar="POLICY", type=words.path, help="a file with the text of its old record")
     parser.add_argument("output", metavar="FILE", type=words.path, help="the fragment goes here where it is to change")
+    parser.add_argument("server", metavar="@SERVER", nargs="?", type=words.server, help="ask this name server")
     words.add_server(parser)
     parser.add_argument("--labels", metavar="A,B", type=_labels, default=_LABELS, help="labels to use by turns")
     parser.add_argument(

@@ -26,12 +26,13 @@ class Run:
 
 
 def find_program() -> str:
-    """The program that the variable SPFC names, or else the one beside this tool, or else that of the path."""
+    """The program that the variable SPFC names, or the one installed with this tool, or beside it, or on the path."""
     if named := os.environ.get("SPFC"):
         return named
-    for folder in (Path(__file__).resolve().parents[1] / "bin", Path(__file__).resolve().parents[3] / "bin"):
-        if os.access(folder / "spfc", os.X_OK):
-            return str(folder / "spfc")
+    top = Path(__file__).resolve().parents[1]
+    for place in (top.parent.parent / "libexec/spfc/spfc", top / "bin/spfc"):
+        if os.access(place, os.X_OK):
+            return str(place)
     if found := shutil.which("spfc"):
         return found
     raise Ending(Status.TOOL, "there is no program spfc here; the variable SPFC may name it")
@@ -59,15 +60,19 @@ class Program:
     def over(self, words: Sequence[str], zone: str) -> Run:
         """Runs the program with these words, and with this text as the zone of the root."""
         self._zone.write_text(zone, encoding="latin-1")
-        return self.run([*words, f".={self._zone}"])
+        return self.run([*words, *self.zones()])
+
+    def zones(self, beside: Sequence[str] = ()) -> list[str]:
+        """The zone words for that zone, behind those for others."""
+        return [*beside, f".={self._zone}"]
 
     def knows(self, command: str, *words: str) -> bool:
         """Whether the program has this command, which takes these words in front of zones."""
         return self.over([command, *words], "").status != USAGE
 
-    def questions(self, domain: str, reading: Sequence[str], zone: str) -> list[str]:
-        """The lines of `deps`: what the policy of the domain rests on over this zone."""
-        ended = self.over(["deps", domain, *reading], zone)
+    def questions(self, domain: str, reading: Sequence[str], zone: str, beside: Sequence[str] = ()) -> list[str]:
+        """The lines of `deps`: what the policy of the domain rests on over this zone and those beside it."""
+        ended = self.over(["deps", domain, *reading, *beside], zone)
         if ended.status == USAGE:
             raise Ending(Status.USAGE, f"spfc deps does not take these words: {' '.join([domain, *reading])}")
         if ended.status:

@@ -39,7 +39,7 @@ def read_reply(question: Question, reply: dns.message.Message) -> Iterator[tuple
     if items := _items(reply, end):
         yield end, Data(items)
     elif not is_alias:
-        yield question, _without_data(reply)
+        yield end, _without_data(reply)
 
 
 def has_alias(reply: dns.message.Message, name: Name) -> bool:

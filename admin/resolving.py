@@ -1,10 +1,10 @@
 """Asks name servers."""
 
 import socket
-import time
 from collections.abc import Callable, Iterable
 from concurrent.futures import ThreadPoolExecutor
-from dataclasses import dataclass
+from dataclasses import dataclass, field
+from threading import Event
 
 import dns.exception
 import dns.message
@@ -44,17 +44,19 @@ class Resolver:
     tries: int = 3
     seconds: float = 5.0
     at_once: int = 8
+    _stopped: Event = field(default_factory=Event)
 
     def ask_all(self, questions: Iterable[Question], tell: Callable[[int, Question], None]) -> Learned:
         """Asks all, some at a time, and gives what was learned in the order of the questions."""
         learned: Learned = []
-        listed = list(questions)
         with ThreadPoolExecutor(self.at_once) as pool:
             try:
-                for number, facts in enumerate(pool.map(self.ask, listed)):
-                    tell(number, listed[number])
-                    learned += facts
+                asked = [(question, pool.submit(self.ask, question)) for question in questions]
+                for number, (question, answer) in enumerate(asked):
+                    tell(number, question)
+                    learned += answer.result()
             except BaseException:
+                self._stopped.set()
                 pool.shutdown(wait=False, cancel_futures=True)
                 raise
         return learned
@@ -63,8 +65,8 @@ class Resolver:
         """Asks one question, anew where it fails, each time of the next server."""
         learned: Learned = []
         for attempt in range(self.tries):
-            if attempt:
-                time.sleep(_PAUSE)
+            if attempt and self._stopped.wait(_PAUSE):
+                break
             learned, is_final = self._try(question, self.servers[attempt % len(self.servers)])
             if is_final:
                 break

@@ -20,12 +20,18 @@ class Entry:
         return Entry(self.meaning.replace("`", ""), self.help.replace("`", ""))
 
 
+_NO_LIST = 'such a policy has no list of networks: take the term out, or see "A policy with macros"'
+_COPY = (
+    "give a gathered file, or a copy with only the names that the policy asks for and what they answer, the TXT records "
+    "of the domain, and what stands at or below the names of the chain"
+)
+
 CAUSES: Mapping[str, Entry] = {
     "norecord": Entry("the domain has no SPF record", "write one, or compile another domain"),
     "outside": Entry(
         "an answer lies outside the zones that were read, or below a delegation: with TERM 0 that for NAME, with "
-        'another TERM one that this term asks for (see "Gather the zones")',
-        "read that zone too, or gather with the same options",
+        'another TERM one that this term asks for (see "Gather")',
+        "read that zone too; over a gathered file, gather with the options with which you compile",
     ),
     "lookups": Entry(
         "the term is one lookup too many",
@@ -45,18 +51,16 @@ CAUSES: Mapping[str, Entry] = {
     "target": Entry("what `a`, `mx` or `exists` asks for is no legal name", "mend the term"),
     "sender": Entry(
         "the term needs the sender's address (`%{s}`, `%{l}`, `%{o}`)",
-        "such a policy has no list of networks; take the term out",
+        _NO_LIST,
     ),
     "helo": Entry(
         "the term needs the name that the sending host gives (`%{h}`)",
-        "such a policy has no list of networks; take the term out",
+        _NO_LIST,
     ),
-    "address": Entry(
-        "the term needs the very address (`%{i}`)", "such a policy has no list of networks; take the term out"
-    ),
+    "address": Entry("the term needs the very address (`%{i}`)", _NO_LIST),
     "reverse": Entry(
         "the term needs the name of the address (`ptr`, `%{p}`)",
-        "such a policy has no list of networks; take the term out",
+        _NO_LIST,
     ),
 }
 
@@ -76,9 +80,10 @@ LINES: Mapping[str, Entry] = {
         'a larger `--size`, or fewer other texts at the domain; see "Size, and the other TXT records"',
     ),
     "usage": Entry(
-        "the words give no job: an option behind a zone word or written twice, `--size`, `--ttl` or `--label` for "
-        "`check`, a number out of range, a label that does not begin with `_`, a final dot on DOMAIN, no zone word, "
-        "two of one origin, more than 64, or LABEL10.DOMAIN longer than 253 characters",
+        "the words give no job: an option that the command does not take, that stands behind a zone word, or that is "
+        "written twice, a number out of range, a label that does not begin with `_`, a final dot on DOMAIN, no zone "
+        "word, two of one origin or more than 64 (of `compare`, on either side of `with`), or LABEL10.DOMAIN longer "
+        "than 253 characters",
         "mend the words; `spfc help COMMAND` has the synopsis",
     ),
     "no file FILE": Entry(
@@ -87,12 +92,9 @@ LINES: Mapping[str, Entry] = {
     ),
     "long file FILE": Entry(
         "the file has more than 8,388,608 bytes",
-        "give a gathered file, or a copy with only the names that the policy asks for and what they answer, the TXT "
-        "records of the domain, and what stands at or below the names of the chain",
+        _COPY,
     ),
-    "too many records ORIGIN": Entry(
-        "with this zone there are more than 65,536 different records", "as for `long file FILE`"
-    ),
+    "too many records ORIGIN": Entry("with this zone there are more than 65,536 different records", _COPY),
     "bad zone FILE LINE KIND": Entry(
         "the entry that begins on this line is the first that is broken or has no meaning", "see below, by KIND"
     ),
@@ -102,6 +104,38 @@ LINES: Mapping[str, Entry] = {
     ),
     "read fault FILE": Entry("the file could not be read, as where it is a folder", "name a file that you may read"),
 }
+
+REASONS: Mapping[str, Entry] = {
+    "no zone LINE KIND": Entry(
+        "the file is no master file: the entry that begins on this line is the first that is broken or has no meaning",
+        "see the table by KIND below",
+    ),
+    "no chain": Entry(
+        "the file has other records than a chain: 1 to 11 TXT records at the domain, LABEL1, LABEL2 and so on, in this "
+        "order, of `ip4`, `ip6` and `all` terms, each leading to the next by `redirect`",
+        "take other records out of the file; a record with `a`, `mx` or `include` is no flat record: compile it",
+    ),
+    "no verdict ADDRESS": Entry(
+        "this is the least address to which the file gives another verdict than the zones",
+        "ask `check` for it, over the zones and over the file. Do not publish: the file is wrong, or the zones are not "
+        "those that it was made from",
+    ),
+    "no table LINE": Entry(
+        "the verdicts are right, but the table does not show that no list is shorter: this line is misspelled, "
+        "misplaced, wrong or missing",
+        "ask for the whole fragment with its comments, or make a table of your own: compile the file as the zone of "
+        "the domain",
+    ),
+    "no terms": Entry(
+        "the verdicts are right, and the table shows that the list is too long",
+        "compile the zones, or live with the longer list",
+    ),
+    "no records": Entry(
+        "a record takes more room than `--size` leaves, or fewer records would hold the list",
+        "name the size that the file was made for; else compile the zones",
+    ),
+}
+"""Why `verify` does not accept a file."""
 
 _FLAT = "write the zone out flat first: `named-compilezone -o flat example.com zone`"
 _OUT = "take these records out of the copy"
@@ -142,7 +176,10 @@ STATUSES: Mapping[int, Entry] = {
         "the output or the line could not be written whole",
         "see to the disk or the pipe, and use nothing of what was written",
     ),
-    7: Entry("want of memory; nothing was written", "run it where there is more memory, or read fewer records"),
+    7: Entry(
+        "want of memory; no output and no line of a refusal was written",
+        "run it where there is more memory, or read fewer records",
+    ),
     9: Entry("the program could not have its words, as where one is no UTF-8; nothing was written", "mend the words"),
     125: Entry("the build of the program failed, or a try", "see what stands above"),
 }

@@ -39,9 +39,16 @@ def server(text: str) -> str:
     return text[1:]
 
 
+def zone_word(text: str) -> str:
+    """A zone word for a zone other than the root."""
+    origin, equals, file = text.partition("=")
+    if not equals or not file or origin in ("", "."):
+        raise argparse.ArgumentTypeError(f"{text} is neither @SERVER nor ORIGIN=FILE")
+    return text
+
+
 def add_server(parser: argparse.ArgumentParser) -> None:
     """The words that say which server is asked, and how."""
-    parser.add_argument("server", metavar="@SERVER", nargs="?", type=server, help="ask this name server")
     parser.add_argument("-p", dest="port", metavar="PORT", type=positive, default=53, help="at this port")
     parser.add_argument("--tries", metavar="N", type=positive, default=3, help="ask a question so often where it fails")
     parser.add_argument("--time", metavar="S", type=positive, default=5, help="seconds to wait for a reply")

@@ -6,7 +6,7 @@ from functools import partial
 from pathlib import Path
 
 import servers
-from scene import Ended, Report, Scene
+from scene import ZONES, Ended, Report, Scene
 
 
 @dataclass(frozen=True)
@@ -31,6 +31,7 @@ _FAULTS = [
     Fault("nxe", outcomes=(("192.0.2.30", "pass"), ("192.0.2.31", "fail"))),
     Fault("eight", outcomes=(("192.0.2.3", "pass"),)),
     Fault("nine", outcomes=(("192.0.2.3", "temperror alias hand0.fake.test 0"),)),
+    Fault("deadnine", outcomes=(("192.0.2.3", "temperror alias d0.fake.test 0"),)),
     Fault("dead", "no answer servfail.fake.test TXT: SERVFAIL"),
     Fault("black", outcomes=(("192.0.2.1", "pass"), ("192.0.2.2", "fail")), options=()),
     Fault("xservfail", "no answer servfail.fake.test TXT: SERVFAIL"),
@@ -58,12 +59,12 @@ _USAGE = [
 ]
 
 
-def checks(scene: Scene, bad: servers.Server) -> Iterator[Callable[[], Report]]:
-    """All checks. The server `bad` is the one that misbehaves."""
+def checks(scene: Scene, bad: servers.Server) -> Iterator[tuple[str, Callable[[], Report]]]:
+    """All checks with their names. The server `bad` is the one that misbehaves."""
     for fault in _FAULTS:
-        yield partial(_misbehaving, fault, scene, bad)
-    for check in (_unanswered, _words, _held, _twice, _written, _closed):
-        yield partial(check, scene)
+        yield f"{fault.domain}.fake.test", partial(_misbehaving, fault, scene, bad)
+    for check in (_unanswered, _words, _held, _twice, _written, _closed, _beside, _dname):
+        yield check.__name__.removeprefix("_"), partial(check, scene)
 
 
 def _misbehaving(fault: Fault, scene: Scene, bad: servers.Server) -> Report:
@@ -164,6 +165,52 @@ def _listed(folder: Path) -> list[str]:
     return sorted(file.name for file in folder.iterdir())
 
 
+def _beside(scene: Scene) -> Report:
+    """Zones of one's own beside the file: of these no server is asked, but for what leads out of them."""
+    report = Report()
+    folder = scene.folder("beside")
+    own = f"example.com={ZONES / 'example.com'}"
+    scene.gather("example.com", own, "-o", "gathered", folder=folder)
+    text = (folder / "gathered").read_text()
+    report.expect("nothing of it is asked", [], [line for line in text.splitlines() if "asked example.com" in line])
+    words = ["compile", "example.com", own]
+    wanted = scene.spfc(*words, *(f"{name}={ZONES / name}" for name in ("mailone.example", "mailtwo.example")))
+    report.expect("beside", wanted, scene.spfc(*words, ".=gathered", folder=folder))
+    # an alias that leads out of the zone beside, to a name that is gathered for it
+    deleg = f"sub.deleg.test={ZONES / 'sub.deleg.test'}"
+    scene.gather("deleg.test", deleg, "--size", "70", "-o", "deleg", folder=folder)
+    zones = [f"{name}={ZONES / name}" for name in ("deleg.test", "sub.deleg.test", "wild.test")]
+    words = ["compile", "deleg.test", "--size", "70"]
+    report.expect("an alias", scene.spfc(*words, *zones), scene.spfc(*words, deleg, ".=deleg", folder=folder))
+    # a policy of 14 includes, whose inner name is flat first
+    inner = scene.gather("d5.limit.test", "-o", "inner", folder=folder)
+    fragment = scene.spfc("compile", "d5.limit.test", "--size", "4096", ".=inner", folder=folder)
+    (folder / "flat").write_text(fragment.output)
+    outer = scene.gather("d1.limit.test", "d5.limit.test=flat", "-o", "outer", folder=folder)
+    report.expect("both are gathered", (0, 0), (inner.status, outer.status))
+    whole = [f"limit.test={ZONES / 'limit.test'}"]
+    wanted = scene.spfc("compile", "d1.limit.test", "--lookups", "20", *whole)
+    report.expect(
+        "over 10", wanted, scene.spfc("compile", "d1.limit.test", "d5.limit.test=flat", ".=outer", folder=folder)
+    )
+    report.expect("a zone word", 4, scene.gather("example.com", ".=x").status)
+    return report
+
+
+def _dname(scene: Scene) -> Report:
+    """The aliases that a server makes of a DNAME record are written as they are; the domain may be one."""
+    report = Report()
+    folder = scene.folder("dname")
+    scene.gather("dname.test", "-o", "gathered", folder=folder)
+    for address, outcome in {"192.0.2.5": "pass", "192.0.2.53": "pass", "192.0.2.54": "fail"}.items():
+        found = scene.spfc("check", "dname.test", address, ".=gathered", folder=folder)
+        report.expect(f"dname {address}", f"{outcome}\n", found.output)
+    scene.gather("a.old.dname.test", "-o", "alias", folder=folder)
+    found = scene.spfc("compile", "a.old.dname.test", ".=alias", folder=folder)
+    report.expect("an alias of its own", "refused alias a.old.dname.test", found.line)
+    return report
+
+
 def _closed(scene: Scene) -> Report:
     """What was not gathered lies outside the file, and is not taken for a name that does not exist."""
     report = Report()
@@ -171,6 +218,10 @@ def _closed(scene: Scene) -> Report:
     scene.gather("nx.test", "-o", "gathered", folder=folder)
     for domain in ("other.test", "a.nx.test", "below.gone.nx.test", "ent.nx.test", "not-gathered.invalid", "x.invalid"):
         found = scene.spfc("check", domain, "192.0.2.1", ".=gathered", folder=folder)
+        report.expect(f"closed: {domain}", f"open outside {domain} 0\n", found.output)
+    scene.gather("wild.test", "-o", "wild", folder=folder)
+    for domain in ("deep.wild.test", "below.host.deep.wild.test", "other.wild.test"):
+        found = scene.spfc("check", domain, "192.0.2.1", ".=wild", folder=folder)
         report.expect(f"closed: {domain}", f"open outside {domain} 0\n", found.output)
     found = scene.spfc("check", "gone.nx.test", "192.0.2.1", ".=gathered", folder=folder)
     report.expect("a name that does not exist", "none norecord gone.nx.test 0\n", found.output)

@@ -74,6 +74,7 @@ def _table() -> dict[str, list[Entry]]:
         "nine": [Entry(TXT, '"v=spf1 include:hand0.fake.test -all"')],
         "hand9": [Entry(TXT, '"v=spf1 ip4:192.0.2.3 -all"')],
         "dead": [Entry(TXT, '"v=spf1 include:d1.fake.test -all"')],
+        "deadnine": [Entry(TXT, '"v=spf1 include:d0.fake.test -all"')],
         # a name that says that it does not exist, though there are names below it
         "nxe": [Entry(TXT, '"v=spf1 a:a.nxe.fake.test include:b.nxe.fake.test -all"')],
         "a.nxe": [Entry(A, "192.0.2.30")],

@@ -6,15 +6,19 @@ import signal
 import sys
 import tempfile
 import time
-from collections.abc import Callable, Iterator
+from collections.abc import Callable, Iterator, Sequence
 from concurrent.futures import ThreadPoolExecutor
 from contextlib import ExitStack
+from dataclasses import replace
 from functools import partial
 from pathlib import Path
 
+import explain_checks
+import faults
 import gather_cases
 import gather_checks
 import nightly_checks
+import package_checks
 import servers
 from scene import TOP, ZONES, Report, Scene
 
@@ -28,19 +32,22 @@ def _arguments() -> argparse.Namespace:
     parser.add_argument("--all", action="store_true", help="all cases of spfc-gather, not the main ones alone")
     parser.add_argument("--nsd", action="store_true", help="gather each case from nsd too")
     parser.add_argument("--forwarding", action="store_true", help="gather each case from a forwarding named too")
+    parser.add_argument("--faults", action="store_true", help="plant faults in the tools, and see that they are found")
     parser.add_argument("--addresses", type=int, default=10, help="try so many addresses in each main case")
     parser.add_argument("--jobs", type=int, default=len(os.sched_getaffinity(0)), help="run so many checks at once")
-    parser.add_argument("names", metavar="NAME", nargs="*", help="these cases of spfc-gather alone")
+    parser.add_argument("names", metavar="NAME", nargs="*", help="these checks alone, by their names")
     return parser.parse_args()
 
 
-def _checks(arguments: argparse.Namespace, scene: Scene, bad: servers.Server) -> Iterator[Check]:
-    if not arguments.names:
-        yield partial(nightly_checks.check, scene)
-        yield from gather_checks.checks(scene, bad)
-    for case in gather_cases.cases(are_all=arguments.all or bool(arguments.names)):
-        if not arguments.names or case.name in arguments.names:
-            yield partial(gather_cases.check, case, scene)
+def _checks(scene: Scene, bad: servers.Server, *, are_all: bool) -> Iterator[tuple[str, Check]]:
+    """The checks with their names."""
+    yield "nightly", partial(nightly_checks.check, scene)
+    yield "walk", partial(nightly_checks.walk, scene)
+    yield from explain_checks.checks(scene)
+    yield from gather_checks.checks(scene, bad)
+    yield from package_checks.checks(scene)
+    for case in gather_cases.cases(are_all=are_all):
+        yield case.name, partial(gather_cases.check, case, scene)
 
 
 def _others(
@@ -50,9 +57,7 @@ def _others(
     others = []
     if arguments.forwarding:
         others.append(stack.enter_context(servers.forwarding(scratch / "forwarding", upstream)))
-    if arguments.nsd and not servers.has_tool("nsd"):
-        print("test-admin: nsd is not installed: nothing is gathered from it")
-    elif arguments.nsd:
+    if arguments.nsd and servers.has_tool("nsd"):
         others.append(stack.enter_context(servers.nsd(scratch / "nsd", ZONES)))
     for server in others:
         server.wait_for("example.com")
@@ -63,7 +68,7 @@ def _report(check: Check) -> Report:
     return check()
 
 
-def _run(checks: Iterator[Check], jobs: int) -> Report:
+def _run(checks: Sequence[Check], jobs: int) -> Report:
     """Runs all checks, some at a time, and prints what is wrong as it is found."""
     total = Report()
     with ThreadPoolExecutor(jobs) as pool:
@@ -74,14 +79,48 @@ def _run(checks: Iterator[Check], jobs: int) -> Report:
     return total
 
 
+def _seen(fault: faults.Fault, scene: Scene, bad: servers.Server) -> str | None:
+    """What is wrong with the tools that have the fault, by the checks that are to see it."""
+    scratch = scene.folder(f"fault {fault.name}")
+    tools = fault.plant(scratch)
+    checks = dict(_checks(replace(scene, tools=tools, scratch=scratch), bad, are_all=True))
+    return faults.first_seen(fault, lambda name: checks[name]())
+
+
+def _try_faults(names: list[str], scene: Scene, bad: servers.Server, jobs: int) -> Report:
+    """Plants each fault, and prints by what it is seen."""
+    total = Report()
+    planted = list(faults.faults(names))
+    with ThreadPoolExecutor(jobs) as pool:
+        for fault, seen in zip(planted, pool.map(lambda fault: _seen(fault, scene, bad), planted)):
+            print(f"test-admin: fault {fault.name}: {seen or 'NOT SEEN'}"[:160], flush=True)
+            total.expect(fault.name, True, seen is not None)
+    return total
+
+
+def _skips(arguments: argparse.Namespace) -> bool:
+    """Says what is skipped, and whether that is all."""
+    if arguments.nsd and not servers.has_tool("nsd"):
+        print("test-admin: nsd is not installed: nothing is gathered from it")
+    for tool, skipped in (("mandoc", "the man pages are not looked at"), ("dpkg-deb", "no package is made")):
+        if not servers.has_tool(tool):
+            print(f"test-admin: {tool} is not installed: {skipped}")
+    if not servers.has_tool("named"):
+        print("test-admin: bind9 is not installed: the tools for administrators are not tried")
+        return True
+    return False
+
+
 def main() -> int:
     """Runs the checks that the words ask for, and gives the status."""
     arguments = _arguments()
-    if not servers.has_tool("named"):
-        print("test-admin: bind9 is not installed: the tools that ask name servers are not tried")
-        return 0
-    begun = time.monotonic()
     signal.signal(signal.SIGTERM, lambda *_: sys.exit(1))
+    if _skips(arguments):
+        return 0
+    if not os.access(arguments.program, os.X_OK):
+        print(f"test-admin: there is no program {arguments.program}")
+        return 1
+    begun = time.monotonic()
     with ExitStack() as stack:
         scratch = Path(stack.enter_context(tempfile.TemporaryDirectory(prefix="spfc-admin-")))
         main_server = stack.enter_context(servers.named(scratch / "named", ZONES))
@@ -90,7 +129,11 @@ def main() -> int:
         bad.wait_for("long.fake.test")
         others = _others(arguments, stack, scratch, main_server)
         scene = Scene(arguments.tools, arguments.program.resolve(), scratch, main_server, others, arguments.addresses)
-        total = _run(_checks(arguments, scene, bad), arguments.jobs)
+        if arguments.faults:
+            total = _try_faults(arguments.names, scene, bad, arguments.jobs)
+        else:
+            named = dict(_checks(scene, bad, are_all=arguments.all or bool(arguments.names)))
+            total = _run([named[name] for name in arguments.names or named], arguments.jobs)
     print(f"test-admin: {total.passed} passed, {len(total.wrong)} failed, {time.monotonic() - begun:.0f} s")
     return 1 if total.wrong else 0
 

@@ -1,0 +1,66 @@
+"""What spfc says of itself: help and its version."""
+
+import shutil
+import subprocess
+from collections.abc import Iterator
+from pathlib import Path
+
+from admin.commands import COMMANDS, OPTIONS, WITH
+
+_PROVED = (
+    "Proved: the records that compile writes give every IPv4 and every IPv6 address the verdict that check_host "
+    "(RFC 7208) gives it over the files that were read, and no list of networks with these verdicts is shorter."
+)
+_TOOLS = {
+    "spfc-gather": "asks DNS for all that a policy rests on, and writes it as one file",
+    "spfc-nightly": "says whether what is published still says what the policy says",
+    "spfc-explain": "says in plain words what a line means, and what helps",
+}
+
+
+def overview() -> str:
+    """The synopsis of every command, on one screen."""
+    lines = ["spfc, a compiler for SPF policies kept in DNS master files", ""]
+    for name, command in COMMANDS.items():
+        lines += [f"spfc {command.synopsis(name)}", f"    {command.purpose}"]
+    lines += ["spfc help COMMAND", "    more of a command", "spfc version", "    the version, and what is proved", ""]
+    lines += [f"{name:13} {purpose}" for name, purpose in _TOOLS.items()]
+    return "\n".join(lines) + "\n"
+
+
+def of_command(name: str) -> str | None:
+    """The words of a command and its options, where there is such a command."""
+    command = COMMANDS.get(name)
+    if command is None:
+        return None
+    lines = [f"spfc {command.synopsis(name)}", f"    {command.purpose}", *_options(command.options)]
+    if command.behind:
+        lines.append(
+            "  ORIGIN=FILE   FILE is the master file of the zone at ORIGIN; 1 to 64 such words, of different origins"
+        )
+    if WITH in command.behind:
+        lines.append(f"  {WITH:13} the second policy is read over the zones behind it, or else over the same ones")
+    return "\n".join(lines) + "\n"
+
+
+def _options(names: tuple[str, ...]) -> Iterator[str]:
+    for name in names:
+        option = OPTIONS[name]
+        written = f"{name} {option.value}".rstrip()
+        rest = f": {option.range}; {option.default} where it is not written" if option.range else ""
+        yield f"  {written:13} {option.purpose}{rest}"
+
+
+def version(top: Path) -> str:
+    """The version, the kit by which the program was proved, and what is proved."""
+    folder = next((place for place in (top, top / "share/spfc") if (place / "VERSION").exists()), top)
+    kit = folder / "KIT"
+    line = kit.read_text().strip() if kit.exists() else kit_line()
+    return f"spfc {(folder / 'VERSION').read_text().strip()}, proved with {line}\n{_PROVED}\n"
+
+
+def kit_line() -> str:
+    """The line by which the kit names itself."""
+    if shutil.which("rt") is None:
+        return "a kit that is not here"
+    return subprocess.run(["rt", "version"], capture_output=True, text=True, check=False).stdout.strip()
