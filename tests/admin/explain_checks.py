@@ -29,6 +29,13 @@ _SAID = {
 }
 """What is said of some cases by looking into their files."""
 
+_COMPARED = {
+    "compare flat.example.com eleven.example.com example.com=zone": "For 0.0.0.0 it takes 11: --lookups 11 reads it.",
+    "compare flat.example.com reverse.example.com example.com=bad with example.com=zone": "    1: ",
+    "compare flat.example.com reverse.example.com example.com=zone with example.com=zone": "-->   1 ptr",
+}
+"""What is said of two policies over the files of a case: the one that is refused is looked into."""
+
 _LINES = {
     "refused 0.0.0.0 lookups example.com 12": (0, "one lookup too many"),
     "permerror missing example.com 2": (0, "A receiver gives a permanent error."),
@@ -83,6 +90,9 @@ def _files(scene: Scene) -> Report:
         words = [word.decode() for word in module.cases_of(folder)[0].words]
         ended = _explained(scene, folder, words)
         report.expect(f"explain {name}", (0, text), (ended.status, text if text in ended.output else ended.output))
+    for line, text in _COMPARED.items():
+        ended = _explained(scene, TOP / "tests/cases/compare-refused", line.split())
+        report.expect(f"explain {line}", (0, text), (ended.status, text if text in ended.output else ended.output))
     return report
 
 
