@@ -17,4 +17,4 @@ pub use loaded::Loaded;
 pub use memory::OrMemory;
 pub use refusal::Refusal;
 pub use stop::Stop;
-pub use text::{copied, line};
+pub use text::{copied, line, push_address, push_part};

@@ -22,7 +22,7 @@ pub fn line(alloc: Global, head: &str, tail: &[u8]) -> Result<Bytes, AllocError>
 }
 
 /// Appends a part behind a space.
-fn push_part(bytes: &mut Bytes, part: &[u8]) -> Result<(), AllocError>
+pub fn push_part(bytes: &mut Bytes, part: &[u8]) -> Result<(), AllocError>
     ensures { OnOk result (bytes.new ≡ bytes.old ++ 32 ∷ part.now) }
 {
     bytes.push(b' ')?;
@@ -90,7 +90,7 @@ pub(crate) fn alias_and_other(
 }
 
 /// Appends an address in its written form.
-fn push_address(bytes: &mut Bytes, address: Address) -> Result<(), AllocError>
+pub fn push_address(bytes: &mut Bytes, address: Address) -> Result<(), AllocError>
     ensures { OnOk result (bytes.new ≡ bytes.old ++ address_text address) }
 {
     match address {

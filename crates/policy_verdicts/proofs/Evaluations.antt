@@ -1,5 +1,5 @@
 -- From an evaluation of every address to its verdicts, or to the least address that is refused.
-use Rattle.std.proofs.Common.{◌≡◌, ◌<◌, ◌^◌, ℕ, true, List, Option, Some, None, IsSomeAnd, refl, sym, subst, true≢false}
+use Rattle.std.proofs.Common.{◌≡◌, ◌<◌, ◌^◌, ℕ, true, List, Option, Some, None, IsSomeAnd, sym, subst, true≢false}
 use Rattle.addr_bits.specs.Prefix.{Cidr}
 use Rattle.addr_bits.specs.Address.{IsAddress}
 use Rattle.addr_bits.specs.declared.address.Address.{Address}

@@ -1,3 +1,4 @@
 pub mod Evaluations
 pub mod OneAnswer
+pub mod OrderedLists
 pub mod OrderedQuestions

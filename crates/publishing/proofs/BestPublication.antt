@@ -1,6 +1,5 @@
 -- A fragment that is due is best.
-use Rattle.std.proofs.Common.{◌≡◌, ℕ, zero, suc, ◌+◌, ◌<◌, ◌≤◌, IsFalse, List, length, Result, Ok, Err, refl, sym, subst, arith}
-use Rattle.dns_name.specs.Name.{name_of_text}
+use Rattle.std.proofs.Common.{◌≡◌, ℕ, zero, suc, ◌+◌, ◌≤◌, IsFalse, List, length, Result, Ok, Err, refl, sym, subst, arith}
 use Rattle.zone_answers.specs.Names.{has_own_alias, is_taken, other_text_of}
 use Rattle.zone_answers.specs.Zone.{Zone}
 use Rattle.spf_grammar.specs.declared.verdict.Verdict.{Verdict}

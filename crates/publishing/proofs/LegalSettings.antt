@@ -1,5 +1,5 @@
 -- The settings that words give.
-use Rattle.std.proofs.Common.{◌≡◌, ℕ, Bool, false, ap₂, suc, ◌+◌, ◌≤◌, IsTrue, List, ◌∷◌, ◌++◌, length, codes, length-append, refl, sym, ap, subst, ◌∙◌, arith, lit≤}
+use Rattle.std.proofs.Common.{◌≡◌, ℕ, Bool, false, ap₂, suc, ◌+◌, ◌≤◌, IsTrue, List, ◌∷◌, ◌++◌, length, codes, length-append, sym, ap, subst, ◌∙◌, arith, lit≤}
 use Rattle.std.specs.Prelude.{decimal}
 use Rattle.std.specs.Str.{str_to_ascii_lowercase}
 use Rattle.std.proofs.lemmas.Bool.{leb-true}

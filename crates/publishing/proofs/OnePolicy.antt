@@ -1,5 +1,5 @@
 -- For the same settings, limits and zones one thing is due at most.
-use Rattle.std.proofs.Common.{◌≡◌, ◌<◌, ◌^◌, ℕ, List, Result, Ok, Err, sym, ap₂, ◌∙◌}
+use Rattle.std.proofs.Common.{◌≡◌, ◌<◌, ◌^◌, ℕ, List, Result, Err, sym, ap₂, ◌∙◌}
 use Rattle.addr_bits.specs.declared.address.Address.{Address}
 use Rattle.addr_bits.specs.declared.address.Address.TheVariants.{V4, V6}
 use Rattle.zone_answers.specs.Zone.{Zone}

@@ -1,9 +1,8 @@
 -- For the same settings, zones and verdicts one thing is due at most.
-use Rattle.std.proofs.Common.{◌≡◌, ◌<◌, ◌+◌, ◌^◌, ℕ, Bool, IsTrue, IsFalse, List, [], ◌∷◌, length, Result, Ok, Err, refl, sym, ap, ap₂, ◌∙◌, subst, arith}
+use Rattle.std.proofs.Common.{◌≡◌, ◌<◌, ◌+◌, ℕ, Bool, IsTrue, IsFalse, List, [], ◌∷◌, length, Result, Ok, Err, refl, sym, ap, ap₂, ◌∙◌, subst, arith}
 use Rattle.zone_answers.specs.Names.{other_text_of}
 use Rattle.zone_answers.specs.Zone.{Zone}
 use Rattle.spf_grammar.specs.declared.flat.FlatTerm.{FlatTerm}
-use Rattle.spf_grammar.specs.declared.verdict.Verdict.{Verdict}
 use Rattle.fewest_terms.specs.Chosen.{chosen_list}
 use Rattle.fewest_terms.specs.Row.{NeedRow}
 use Rattle.fewest_terms.specs.Tables.{need_rows}
@@ -13,7 +12,7 @@ use Rattle.record_pack.specs.Records.{RiseTo, RecordsFit, TakeMost}
 use Rattle.loading.specs.declared.refusal.Refusal.{Refusal}
 use Rattle.loading.specs.declared.refusal.Refusal.TheVariants.{Taken}
 use Rattle.publishing.specs.Published.{IsChosenCut, IsFirstTaken, AreFree, fragment_of, name_text, OnePublication}
-use Rattle.publishing.specs.Published.{ListDue, too_big, taken, written, PublicationDue, alias, packed}
+use Rattle.publishing.specs.Published.{ListDue, too_big, taken, written, alias, packed}
 use Rattle.publishing.specs.declared.settings.ChainSettings.{ChainSettings}
 use Rattle.publishing.proofs.SameVerdicts.{Agree, rows_same, total_same, chosen_list_same}
 

@@ -1,5 +1,5 @@
 -- The fragment of a policy is a shortest one.
-use Rattle.std.proofs.Common.{◌≡◌, ℕ, List, Ok, sym, ◌∙◌, subst}
+use Rattle.std.proofs.Common.{ℕ, List, Ok, sym, ◌∙◌, subst}
 use Rattle.addr_bits.specs.declared.address.Address.TheVariants.{V4, V6}
 use Rattle.addr_bits.specs.declared.address.Family.TheVariants as family
 use Rattle.zone_answers.specs.Zone.{Zone}

@@ -1,7 +1,12 @@
-use Rattle.std.proofs.Common.{rules, subst, sym}
+use Rattle.std.proofs.Common.{rules}
 use Rattle.loading.proofs.StopLemmas.{result_also}
 use Rattle.publishing.proofs.PublicationLemmas.{policy_refused, policy_written, policy_stopped}
 use Rattle.publishing.proofs.policy.publish_policy.Goals as goal
+
+pub returns-in_err-found-clause-refused : goal.returns-in_err-found-clause-refused
+returns-in_err-found-clause-refused c =
+    let refused = policy_refused c.args.settings.now c.args.limits c.args.zones.now c.in_err-found.field-0.0 (rw c.as_slice.ensures at c.in_err-found.ensures.refused) in
+    search (rules, refused)
 
 pub returns-clause-written : goal.returns-clause-written
 returns-clause-written c =
