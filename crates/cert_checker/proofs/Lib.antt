@@ -8,3 +8,9 @@ mod ListVerdicts
 pub mod OneChain
 pub mod OneReason
 mod Prefixes
+pub mod Published
+mod PublishedChains
+mod PublishedLines
+mod PublishedLists
+mod PublishedRows
+mod PublishedTables

@@ -52,7 +52,7 @@ trie_is f due list cover alike = fun_ext (λ a. by a (nat_lt a (2 ^ bits_of f)) 
     by a true e = ap or_neutral (alike a (ltb-true a (2 ^ bits_of f) e))
     by a false e = ap or_neutral (behind_last (bits_of f) 0 due a cover (ltb-false a (2 ^ bits_of f) e))
 
-within_is : (f : Family) (list : List FlatTerm) (a : ℕ) → a < 2 ^ bits_of f → verdicts_in f list a ≡ first list (address_of f a)
+pub within_is : (f : Family) (list : List FlatTerm) (a : ℕ) → a < 2 ^ bits_of f → verdicts_in f list a ≡ first list (address_of f a)
 within_is f list a lt = by (nat_lt a (2 ^ bits_of f)) refl
   where
     by : (t : Bool) → nat_lt a (2 ^ bits_of f) ≡ t → cond t (first list (address_of f a)) Neutral ≡ first list (address_of f a)

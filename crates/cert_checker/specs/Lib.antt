@@ -3,6 +3,7 @@ pub mod Forms
 pub mod Judging
 pub mod Laws
 pub mod Likeness
+pub mod Published
 pub mod Reading
 pub mod Reasons
 pub mod Steps

@@ -1,5 +1,6 @@
 //! What holds of every certificate. The functions do nothing: what they promise is the law.
 ghost use Rattle.cert_checker.specs.Laws.{NoReasonBesideYes, OneReason};
+ghost use Rattle.cert_checker.specs.Published.{PublishedHasNoReason, PublishedIsCertified};
 
 /// Beside want of memory one reason at most is the first that holds.
 pub fn one_reason()
@@ -9,4 +10,11 @@ pub fn one_reason()
 /// Of a fragment that is accepted no reason holds.
 pub fn no_reason_beside_yes()
     ensures { NoReasonBesideYes }
+{}
+
+/// What was published of a policy is certified, with its own numbers of terms and of records, and no reason holds of
+/// it: over the same zones, under the same limits and for the same size.
+pub fn published_is_certified()
+    ensures certified { PublishedIsCertified }
+    ensures reason { PublishedHasNoReason }
 {}

@@ -68,7 +68,7 @@ holds_name zones limits domain name verdict_of named all = given_name zones limi
 
 -- ---- the pieces of a cut
 
-pieces_prefixes : (list : List FlatTerm) (from : ℕ) (ends : List ℕ) → HavePrefixes list → AllHavePrefixes (pieces_from list from ends)
+pub pieces_prefixes : (list : List FlatTerm) (from : ℕ) (ends : List ℕ) → HavePrefixes list → AllHavePrefixes (pieces_from list from ends)
 pieces_prefixes list from [] h = tt
 pieces_prefixes list from (to ∷ ends) h = (prefixes_piece list from to h, pieces_prefixes list to ends h)
 
@@ -80,7 +80,7 @@ drop_again : (list : List FlatTerm) (from to : ℕ) → from ≤ to → drop to 
 drop_again list from to h = sym (drop-drop (to - from) from list ∙ ap (λ n. drop n list) (omega (arith, h)))
 
 -- all pieces are the list
-pieces_terms : (list : List FlatTerm) (from : ℕ) (ends : List ℕ) → RiseTo from (length list) ends → all_terms (pieces_from list from ends) ≡ drop from list
+pub pieces_terms : (list : List FlatTerm) (from : ℕ) (ends : List ℕ) → RiseTo from (length list) ends → all_terms (pieces_from list from ends) ≡ drop from list
 pieces_terms list from [] h = sym (ap (λ n. drop n list) h ∙ drop_all list)
 pieces_terms list from (to ∷ ends) h =
     ap (λ ts. take (to - from) (drop from list) ++ ts) (pieces_terms list to ends h.2 ∙ drop_again list from to h.0) ∙ take-append-drop (to - from) (drop from list)

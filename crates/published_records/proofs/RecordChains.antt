@@ -160,7 +160,7 @@ record_label domain label k words few =
 pub ten_long : length (decimal 10) ≡ 2
 ten_long = ap length (decimal_step 10 (omega arith) (omega arith)) ∙ ap (λ ds. length (ds ++ 48 ∷ [])) (decimal_digit 1 (omega arith))
 
-name_short : (domain label : List ℕ) (k : ℕ) → AreChainWords domain label → k + 1 ≤ 10 → length (record_name domain label (k + 1)) ≤ 253
+pub name_short : (domain label : List ℕ) (k : ℕ) → AreChainWords domain label → k + 1 ≤ 10 → length (record_name domain label (k + 1)) ≤ 253
 name_short domain label k words few =
     let r = record_label domain label (k + 1) words few in
     let here : length (record_name domain label (k + 1)) ≡ length (label ++ decimal (k + 1)) + suc (length domain) =

@@ -85,7 +85,7 @@ length_distinct (r ∷ records) = omega (
   count_by-le-length (λ s. not (same_record r s)) (distinct_records records),
 )
 
-length_written : (domain label : List ℕ) (name : List (List ℕ)) (k : ℕ) (lists : List (List FlatTerm)) → length (written_records domain label name k lists) ≡ length lists
+pub length_written : (domain label : List ℕ) (name : List (List ℕ)) (k : ℕ) (lists : List (List FlatTerm)) → length (written_records domain label name k lists) ≡ length lists
 length_written domain label name k [] = refl
 length_written domain label name k (terms ∷ lists) = ap suc (length_written domain label name (k + 1) lists)
 

@@ -1,17 +1,15 @@
 -- The parts of a record's terms that every address of a family has alike.
-use Rattle.std.proofs.Common.{◌≡◌, ◌≢◌, ℕ, zero, suc, ◌<◌, ◌++◌, List, [], ◌∷◌, refl, sym, ap, subst, inl, inr, Contains, Option, Some, None, Result, Ok, Err, arith}
+use Rattle.std.proofs.Common.{◌≡◌, ◌≢◌, ℕ, zero, suc, ◌<◌, ◌++◌, List, [], ◌∷◌, refl, sym, ◌∙◌, ap, subst, inl, inr, Contains, Option, Some, None, Result, Ok, Err, arith}
 use Rattle.std.specs.Prelude.{slice_index_or}
 use Rattle.std.proofs.lemmas.List.Elements.{Contains-append_left, Contains-append_cases, Contains-push}
 use Rattle.zone_answers.specs.declared.answer.Question.{Question}
 use Rattle.zone_answers.specs.declared.answer.Answer.{Answer}
 use Rattle.zone_answers.specs.declared.answer.Answer.TheVariants as answer
 use Rattle.spf_macros.specs.declared.piece.Piece.{Piece}
-use Rattle.spf_model.specs.declared.outcome.Cause.TheVariants as cause
 use Rattle.spf_model.specs.declared.outcome.Counts.{Counts}
 use Rattle.spf_model.specs.declared.outcome.Halt.{Halt}
 use Rattle.spf_model.specs.declared.outcome.Halt.TheVariants.{Ended, Memory}
 use Rattle.spf_model.specs.declared.outcome.Outcome.{Outcome}
-use Rattle.spf_model.specs.declared.outcome.Outcome.TheVariants.{Temp, Unsettled}
 use Rattle.spf_model.specs.Run.{Run, Ends, Asks, Answering}
 use Rattle.spf_model.specs.Judging.{Labels, Site, with_target, with_name, name_of, answered, ask}
 use Rattle.spf_model.specs.Leads.{NoVerdict, HandsOn, Halts}
@@ -161,18 +159,11 @@ ask_told zones site t question found asked more noted e n m =
     settles_next zones asked more more (answer_part question) (answered_part site t) found (Ok found) (answer_settles zones asked more question found noted e)
     (settles_passing zones more (answered_part site t found) found (λ counts go. answer_goes_on site t counts go found n m))
 
-pub ask_outside : (zones : Answering) (site : Site) (t : ℕ) (question : Question) (found : Answer) (halt : Halt) (asked more : List Question)
-    → more ≡ asked ++ question ∷ [] → found ≡ zones question → found ≡ answer.Outside → halt ≡ Ended (Unsettled cause.Outside (record { name = site.name; term = t }))
+pub ask_ended : (zones : Answering) (site : Site) (t : ℕ) (question : Question) (found ended : Answer) (outcome : Outcome) (halt : Halt) (asked more : List Question)
+    → NoVerdict outcome → ((counts : Counts) (go : Answer → Run) → answered site t counts go ended ≡ Ends outcome counts)
+    → more ≡ asked ++ question ∷ [] → found ≡ zones question → found ≡ ended → halt ≡ Ended outcome
     → Settles zones (ask_part site t question) asked more (Err halt)
-ask_outside zones site t question found halt asked more noted e is ends =
+ask_ended zones site t question found ended outcome halt asked more none ends noted e is halts =
     settles_next zones asked more more (answer_part question) (answered_part site t) found (Err halt) (answer_settles zones asked more question found noted e)
-    (settles_stopping zones more (answered_part site t found) (Unsettled cause.Outside (record { name = site.name; term = t })) halt ends tt
-    (λ counts go. ap (λ (x : Answer). answered site t counts go x) is))
-
-pub ask_round : (zones : Answering) (site : Site) (t : ℕ) (question : Question) (found : Answer) (halt : Halt) (asked more : List Question)
-    → more ≡ asked ++ question ∷ [] → found ≡ zones question → found ≡ answer.Loop → halt ≡ Ended (Temp cause.Alias (record { name = site.name; term = t }))
-    → Settles zones (ask_part site t question) asked more (Err halt)
-ask_round zones site t question found halt asked more noted e is ends =
-    settles_next zones asked more more (answer_part question) (answered_part site t) found (Err halt) (answer_settles zones asked more question found noted e)
-    (settles_stopping zones more (answered_part site t found) (Temp cause.Alias (record { name = site.name; term = t })) halt ends tt
-    (λ counts go. ap (λ (x : Answer). answered site t counts go x) is))
+    (settles_stopping zones more (answered_part site t found) outcome halt halts none
+    (λ counts go. ap (λ (x : Answer). answered site t counts go x) is ∙ ends counts go))

@@ -1,5 +1,5 @@
 -- The record of a domain, for every address.
-use Rattle.std.proofs.Common.{◌≡◌, ℕ, ◌<◌, ◌≤◌, ◌++◌, List, [], ◌∷◌, length, refl, sym, ap, subst, ◌⊎◌, inl, inr, Option, Some, None, Result, Ok, Err, arith}
+use Rattle.std.proofs.Common.{◌≡◌, ℕ, ◌<◌, ◌≤◌, ◌++◌, List, [], ◌∷◌, length, refl, sym, ◌∙◌, ap, subst, ◌⊎◌, inl, inr, Option, Some, None, Result, Ok, Err, arith}
 use Rattle.addr_bits.proofs.Texts.{one_address}
 use Rattle.zone_answers.specs.declared.answer.QKind.TheVariants as kind
 use Rattle.zone_answers.specs.declared.answer.Question.{Question}
@@ -12,11 +12,14 @@ use Rattle.spf_grammar.specs.declared.policy.Term.{Term}
 use Rattle.spf_model.specs.declared.outcome.Cause.TheVariants as cause
 use Rattle.spf_model.specs.declared.outcome.Halt.{Halt}
 use Rattle.spf_model.specs.declared.outcome.Halt.TheVariants.{Ended}
-use Rattle.spf_model.specs.declared.outcome.Outcome.TheVariants.{Nothing, Perm, Temp, Unsettled}
-use Rattle.spf_model.specs.Run.{Run, Reads, Answering, EndsWith, AsksFor}
+use Rattle.spf_model.specs.declared.outcome.Counts.{Counts}
+use Rattle.spf_model.specs.declared.outcome.Outcome.{Outcome}
+use Rattle.spf_model.specs.declared.outcome.Outcome.TheVariants.{Nothing, Perm}
+use Rattle.spf_model.specs.Run.{Run, Ends, Reads, Answering, EndsWith, AsksFor}
 use Rattle.spf_model.specs.Judging.{Labels}
 use Rattle.spf_model.specs.Check.{with_policy, with_texts, with_answer, with_record}
 use Rattle.spf_model.proofs.RunLaws.{read_once}
+use Rattle.spf_model.specs.Leads.{NoVerdict}
 use Rattle.spf_model.specs.Settling.{Follows}
 use Rattle.spf_model.specs.Settling.{PartOf, Settles}
 use Rattle.spf_model.proofs.Settling.{adds_none}
@@ -104,27 +107,20 @@ pub record IsAsked (zones : Answering) (name : Labels) (found : Answer) (asked m
   pub noted : more ≡ asked ++ record { name = name; kind = kind.Txt } ∷ []
   pub answer : found ≡ zones (record { name = name; kind = kind.Txt })
 
-pub found_outside : (zones : Answering) (name : Labels) (found : Answer) (halt : Halt) (asked more : List Question) → IsAsked zones name found asked more → found ≡ answer.Outside
-    → halt ≡ Ended (Unsettled cause.Outside (record { name = name; term = 0 })) → Settles zones (record_part name) asked more (Err halt)
-found_outside zones name found halt asked more h e is =
+pub found_ended : (zones : Answering) (name : Labels) (found ended : Answer) (outcome : Outcome) (halt : Halt) (asked more : List Question) → IsAsked zones name found asked more
+    → NoVerdict outcome → ((counts : Counts) (go : List Term → Run) → with_answer name counts ended go ≡ Ends outcome counts) → found ≡ ended → halt ≡ Ended outcome
+    → Settles zones (record_part name) asked more (Err halt)
+found_ended zones name found ended outcome halt asked more h none ends e is =
     record_asked zones name found asked more (Err halt) h.many h.noted h.answer
-    (settles_stopping zones more (found_part name found) (Unsettled cause.Outside (record { name = name; term = 0 })) halt is tt (λ counts go. ap (λ (x : Answer). with_answer name counts x go) e))
-
-pub found_round : (zones : Answering) (name : Labels) (found : Answer) (halt : Halt) (asked more : List Question) → IsAsked zones name found asked more → found ≡ answer.Loop
-    → halt ≡ Ended (Temp cause.Alias (record { name = name; term = 0 })) → Settles zones (record_part name) asked more (Err halt)
-found_round zones name found halt asked more h e is =
-    record_asked zones name found asked more (Err halt) h.many h.noted h.answer
-    (settles_stopping zones more (found_part name found) (Temp cause.Alias (record { name = name; term = 0 })) halt is tt (λ counts go. ap (λ (x : Answer). with_answer name counts x go) e))
+    (settles_stopping zones more (found_part name found) outcome halt is none (λ counts go. ap (λ (x : Answer). with_answer name counts x go) e ∙ ends counts go))
 
 pub found_nothing : (zones : Answering) (name : Labels) (found : Answer) (halt : Halt) (asked more : List Question) → IsAsked zones name found asked more
     → (found ≡ answer.NoName) ⊎ (found ≡ answer.NoData)
     → halt ≡ Ended (Nothing (record { name = name; term = 0 })) → Settles zones (record_part name) asked more (Err halt)
 found_nothing zones name found halt asked more h (inl e) is =
-    record_asked zones name found asked more (Err halt) h.many h.noted h.answer
-    (settles_stopping zones more (found_part name found) (Nothing (record { name = name; term = 0 })) halt is tt (λ counts go. ap (λ (x : Answer). with_answer name counts x go) e))
+    found_ended zones name found answer.NoName (Nothing (record { name = name; term = 0 })) halt asked more h tt (λ counts go. refl) e is
 found_nothing zones name found halt asked more h (inr e) is =
-    record_asked zones name found asked more (Err halt) h.many h.noted h.answer
-    (settles_stopping zones more (found_part name found) (Nothing (record { name = name; term = 0 })) halt is tt (λ counts go. ap (λ (x : Answer). with_answer name counts x go) e))
+    found_ended zones name found answer.NoData (Nothing (record { name = name; term = 0 })) halt asked more h tt (λ counts go. refl) e is
 
 pub found_bodies : (zones : Answering) (name : Labels) (found bodies : Answer) (result : Result (List Term) Halt) (asked more : List Question) → IsAsked zones name found asked more
     → found ≡ bodies → Settles zones (found_part name bodies) more more result → Settles zones (record_part name) asked more result

@@ -49,7 +49,7 @@ fn cause_of(need: Need) -> Cause
 
 /// The name that a text writes (RFC 1034, section 3.1), if it writes one.
 #[tactic(auto, unfolding(crate::specs::Judging::name_of))]
-pub(crate) fn name_of(text: &[u8]) -> Option<Name>
+pub fn name_of(text: &[u8]) -> Option<Name>
     ensures { result ≡ judging.name_of text.now }
 {
     Name::from_text(text).ok()

@@ -14,10 +14,11 @@ mod outcome;
 mod record;
 
 pub use check::{check_one, redirect_of};
-pub use context::RecordContext;
+pub use context::{RecordContext, name_of};
 pub use ending::Ending;
 pub use failure::Failure;
 pub use gathered::{Gathered, Lens};
 pub use laws::{chains_give_first, depth_suffices, one_end, rests_on_its_questions};
 pub use lines::{write_cause, write_outcome};
 pub use outcome::{Cause, Counts, Halt, Limits, Outcome, Place};
+pub use record::spf_texts;

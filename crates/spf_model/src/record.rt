@@ -43,7 +43,7 @@ fn spf_text_of(alloc: Global, body: &Body) -> Result<Option<Bytes>, AllocError>
 }
 
 /// The SPF texts of records, in order (RFC 7208, sections 3.3 and 4.5). `AllocError` where there is no memory.
-fn spf_texts(alloc: Global, bodies: &[Body]) -> Result<Text, AllocError>
+pub fn spf_texts(alloc: Global, bodies: &[Body]) -> Result<Text, AllocError>
     ensures { IfOk result (λ texts. texts ≡ filter_map check.spf_text_of bodies.now) }
 {
     let mut texts = Text::new(alloc);

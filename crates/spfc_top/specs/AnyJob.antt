@@ -3,12 +3,14 @@ use Rattle.std.specs.Prelude.{ℕ, List, [], ◌∷◌, ◌≡◌, codes}
 use Rattle.jobs.specs.Meaning.{Meaning, Program, program}
 use Rattle.job_check.specs.Meaning.{meaning_of_check}
 use Rattle.job_check.specs.Words.{SpellsCheck}
+use Rattle.job_compare.specs.Meaning.{meaning_of_compare}
+use Rattle.job_compare.specs.Words.{SpellsCompare}
 use Rattle.job_compile.specs.Meaning.{meaning_of_compile}
 use Rattle.job_compile.specs.Words.{SpellsCompile}
 use Rattle.job_deps.specs.Meaning.{meaning_of_deps}
 use Rattle.job_deps.specs.Words.{SpellsDeps}
 use Rattle.spfc_top.specs.declared.any_job.AnyJob.{AnyJob}
-use Rattle.spfc_top.specs.declared.any_job.AnyJob.TheVariants.{Check, Compile, Deps, Verify, Trial}
+use Rattle.spfc_top.specs.declared.any_job.AnyJob.TheVariants.{Check, Compile, Deps, Verify, Trial, Compare}
 use Rattle.job_verify.specs.Meaning.{meaning_of_verify}
 use Rattle.job_verify.specs.Words.{SpellsVerify}
 use Rattle.job_trial.specs.Meaning.{meaning_of_trial}
@@ -21,6 +23,7 @@ command_of (Compile job) = codes "compile"
 command_of (Deps job) = codes "deps"
 command_of (Verify job) = codes "verify"
 command_of (Trial job) = codes "trial"
+command_of (Compare job) = codes "compare"
 
 -- the words behind the command
 abbrev pub SpellsBehind : List (List ℕ) → AnyJob → Type 0
@@ -29,6 +32,7 @@ SpellsBehind words (Compile job) = SpellsCompile words job
 SpellsBehind words (Deps job) = SpellsDeps words job
 SpellsBehind words (Verify job) = SpellsVerify words job
 SpellsBehind words (Trial job) = SpellsTrial words job
+SpellsBehind words (Compare job) = SpellsCompare words job
 
 -- the words spell the job
 abbrev pub SpellsAny : List (List ℕ) → AnyJob → Type 0
@@ -42,6 +46,7 @@ meaning_of (Compile job) = meaning_of_compile job
 meaning_of (Deps job) = meaning_of_deps job
 meaning_of (Verify job) = meaning_of_verify job
 meaning_of (Trial job) = meaning_of_trial job
+meaning_of (Compare job) = meaning_of_compare job
 
 -- all jobs
 abbrev pub jobs : Program

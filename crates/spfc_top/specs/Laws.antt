@@ -5,10 +5,11 @@ use Rattle.std.proofs.lemmas.Bool.{false≢true}
 use Rattle.std.proofs.lemmas.Slice.Eq.{bytes_eq-Decides}
 use Rattle.jobs.specs.Meaning.{IsLawful}
 use Rattle.job_check.specs.Laws.{check_ready, one_check, check_lawful}
+use Rattle.job_compare.specs.Laws.{compare_ready, one_compare, compare_lawful}
 use Rattle.job_compile.specs.Laws.{compile_ready, one_compile, compile_lawful}
 use Rattle.job_deps.specs.Laws.{deps_ready, one_deps, deps_lawful}
 use Rattle.spfc_top.specs.declared.any_job.AnyJob.{AnyJob}
-use Rattle.spfc_top.specs.declared.any_job.AnyJob.TheVariants.{Check, Compile, Deps, Verify, Trial}
+use Rattle.spfc_top.specs.declared.any_job.AnyJob.TheVariants.{Check, Compile, Deps, Verify, Trial, Compare}
 use Rattle.job_verify.specs.Laws.{verify_ready, one_verify, verify_lawful}
 use Rattle.job_trial.specs.Laws.{trial_ready, one_trial_spelled, trial_lawful}
 use Rattle.spfc_top.specs.AnyJob.{command_of, SpellsBehind, SpellsAny, meaning_of}
@@ -19,6 +20,7 @@ ready_behind words (Compile job) is = compile_ready words job is
 ready_behind words (Deps job) is = deps_ready words job is
 ready_behind words (Verify job) is = verify_ready words job is
 ready_behind words (Trial job) is = trial_ready words job is
+ready_behind words (Compare job) is = compare_ready words job is
 
 -- the words of a job make it ready
 pub any_ready : (words : List (List ℕ)) (job : AnyJob) → SpellsAny words job → (meaning_of job).IsReady
@@ -33,6 +35,7 @@ one_behind words (Compile a) (Compile b) e x y = ap Compile (one_compile words a
 one_behind words (Deps a) (Deps b) e x y = ap Deps (one_deps words a b x y)
 one_behind words (Verify a) (Verify b) e x y = ap Verify (one_verify words a b x y)
 one_behind words (Trial a) (Trial b) e x y = ap Trial (one_trial_spelled words a b x y)
+one_behind words (Compare a) (Compare b) e x y = ap Compare (one_compare words a b x y)
 one_behind words a b e x y = absurd (false≢true ((bytes_eq-Decides (command_of a) (command_of b)).1 e))
 
 -- words spell one job at most
@@ -47,3 +50,4 @@ any_lawful (Compile job) = compile_lawful job
 any_lawful (Deps job) = deps_lawful job
 any_lawful (Verify job) = verify_lawful job
 any_lawful (Trial job) = trial_lawful job
+any_lawful (Compare job) = compare_lawful job

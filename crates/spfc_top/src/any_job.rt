@@ -5,6 +5,7 @@ ghost use Rattle.spfc_top.specs.AnyJob.{SpellsAny};
 ghost use Rattle.spfc_top.specs.declared.any_job.AnyJob.{AnyJob};
 
 use job_check::Check;
+use job_compare::Compare;
 use job_compile::Compile;
 use job_deps::Deps;
 use job_trial::Trial;
@@ -27,6 +28,8 @@ pub enum AnyJob {
     Verify(Verify),
     /// `trial START N`
     Trial(Trial),
+    /// `compare DOMAIN DOMAIN READING ORIGIN=FILE.. with ORIGIN=FILE..`
+    Compare(Compare),
 }
 
 /// The job that the words after the program's name spell; `None` exactly where they spell none.
@@ -61,6 +64,7 @@ impl Job for AnyJob {
             "deps" => Ok(Deps::read(alloc, rest)?.map(AnyJob::Deps)),
             "verify" => Ok(Verify::read(alloc, rest)?.map(AnyJob::Verify)),
             "trial" => Ok(Trial::read(alloc, rest)?.map(AnyJob::Trial)),
+            "compare" => Ok(Compare::read(alloc, rest)?.map(AnyJob::Compare)),
             _ => Ok(None),
         }
     }
@@ -72,6 +76,7 @@ impl Job for AnyJob {
             AnyJob::Deps(job) => job.inputs(),
             AnyJob::Verify(job) => job.inputs(),
             AnyJob::Trial(job) => job.inputs(),
+            AnyJob::Compare(job) => job.inputs(),
         }
     }
 
@@ -82,6 +87,7 @@ impl Job for AnyJob {
             AnyJob::Deps(job) => job.perform(alloc, loaded),
             AnyJob::Verify(job) => job.perform(alloc, loaded),
             AnyJob::Trial(job) => job.perform(alloc, loaded),
+            AnyJob::Compare(job) => job.perform(alloc, loaded),
         }
     }
 }

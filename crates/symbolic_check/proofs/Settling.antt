@@ -1,19 +1,20 @@
 -- Parts that every address has alike, before a walk.
-use Rattle.std.proofs.Common.{◌≡◌, ℕ, true, false, List, refl, sym, subst, inl, inr, Option, Some, None, IsSomeAnd}
+use Rattle.std.proofs.Common.{◌≡◌, ℕ, false, List, refl, sym, subst, inl, inr, Option, Some, None, IsSomeAnd}
 use Rattle.std.proofs.lemmas.Bool.{true≢false}
 use Rattle.addr_bits.specs.Prefix.{Cidr}
 use Rattle.zone_answers.specs.declared.answer.Question.{Question}
 use Rattle.prefix_trie.specs.Leaves.{value_at}
 use Rattle.spf_model.specs.declared.outcome.Counts.{Counts}
 use Rattle.spf_model.specs.declared.outcome.Outcome.{Outcome}
-use Rattle.spf_model.specs.Run.{Run, Ends, Answering}
+use Rattle.spf_model.specs.Run.{Run, Answering}
 use Rattle.symbolic_check.specs.declared.state.State.{State}
 use Rattle.symbolic_check.specs.declared.state.State.TheVariants.{Live, Decided, Failed}
 use Rattle.symbolic_check.specs.Steps.{is_live, after_failure}
 use Rattle.symbolic_check.specs.Walk.{Stretch, Moves, Walks, SomeLive, NoneLive, StepsAt}
 use Rattle.spf_model.specs.Settling.{PartOf, Passes, Stops, Adds}
-use Rattle.spf_model.proofs.Following.{follows_twice, follows_more}
-use Rattle.symbolic_check.proofs.Walking.{Within, leaves_twice}
+use Rattle.spf_model.proofs.Following.{follows_more}
+use Rattle.spf_model.proofs.Settling.{Within}
+use Rattle.symbolic_check.proofs.Walking.{leaves_twice}
 
 -- ---- a part before a walk
 

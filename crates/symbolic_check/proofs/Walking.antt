@@ -1,5 +1,5 @@
 -- Walks one after the other.
-use Rattle.std.proofs.Common.{◌≡◌, ℕ, List, refl, sym, subst, inl, inr, Contains, Option, Some, None, IsSomeAnd}
+use Rattle.std.proofs.Common.{◌≡◌, ℕ, List, refl, sym, subst, inl, inr, Option, Some, None, IsSomeAnd}
 use Rattle.addr_bits.specs.Prefix.{Cidr}
 use Rattle.zone_answers.specs.declared.answer.Question.{Question}
 use Rattle.prefix_trie.specs.Leaves.{value_at}
@@ -12,11 +12,8 @@ use Rattle.symbolic_check.specs.declared.state.State.{State}
 use Rattle.symbolic_check.specs.declared.state.State.TheVariants.{Live, Decided, Failed}
 use Rattle.spf_model.specs.Settling.{Follows}
 use Rattle.symbolic_check.specs.Walk.{Leaves, Part, Stretch, Moves, Walks, then_stretch, StepsAt}
+use Rattle.spf_model.proofs.Settling.{Within}
 use Rattle.spf_model.proofs.Following.{follows_itself, follows_twice, follows_more}
-
--- all questions of one list are in another
-abbrev pub Within : List Question → List Question → Type 0
-Within asked more = (q : Question) → Contains asked q → Contains more q
 
 -- a stretch hands its counts on, and another goes on from there
 pub leaves_twice : (zones : Answering) (asked : List Question) (first next : Part) (new : State)

@@ -1,12 +1,11 @@
 -- What a walk over a record says of one address (the project's own form; the record is RFC 7208's, section 4.6).
-use Rattle.std.specs.Prelude.{◌≡◌, false, ℕ, ◌^◌, ◌<◌, ◌⊎◌, ◌↔◌, List, Contains, IsSomeAnd, Some}
+use Rattle.std.specs.Prelude.{◌≡◌, false, ℕ, ◌^◌, ◌<◌, ◌⊎◌, List, Contains, IsSomeAnd, Some}
 use Rattle.addr_bits.specs.Prefix.{Cidr}
 use Rattle.zone_answers.specs.declared.answer.Question.{Question}
 use Rattle.prefix_trie.specs.Leaves.{value_at}
 use Rattle.spf_model.specs.declared.outcome.Counts.{Counts}
-use Rattle.spf_model.specs.declared.outcome.Outcome.{Outcome}
 use Rattle.spf_model.specs.declared.outcome.Outcome.TheVariants.{Is}
-use Rattle.spf_model.specs.Run.{Run, Ends, Answering, EndsWith, AsksFor}
+use Rattle.spf_model.specs.Run.{Run, Ends, Answering, AsksFor}
 use Rattle.spf_model.specs.Leads.{NoVerdict}
 use Rattle.spf_model.specs.Settling.{Follows}
 use Rattle.symbolic_check.specs.declared.state.State.{State}

@@ -1,7 +1,9 @@
-use Rattle.std.proofs.Common.{arith}
+use Rattle.std.proofs.Common.{refl, arith}
 use Rattle.zone_answers.specs.declared.answer.Answer.TheVariants as answer
+use Rattle.spf_model.specs.declared.outcome.Cause.TheVariants as cause
+use Rattle.spf_model.specs.declared.outcome.Outcome.TheVariants.{Temp, Unsettled}
 use Rattle.spf_model.specs.Run.{says}
-use Rattle.spf_model.proofs.Finding.{few_labels, found_outside, found_round, found_nothing, found_bodies}
+use Rattle.spf_model.proofs.Finding.{few_labels, found_ended, found_nothing, found_bodies}
 use Rattle.spf_model.proofs.context.RecordContext.find_record.Goals as goal
 
 pub returns-then-label_count-lt2-clause-found : goal.returns-then-label_count-lt2-clause-found
@@ -10,14 +12,16 @@ returns-then-label_count-lt2-clause-found c =
 
 pub returns-in-Outside-clause-found : goal.returns-in-Outside-clause-found
 returns-in-Outside-clause-found c =
-    found_outside (says c.args.self.now.zones.now) c.args.self.now.name.now c.in_ok-answer.field-0 c.open.result c.args.asked.now c.answer.new.asked
-    (record { many = omega (arith, c.label_count.ensures.labels, c.if-label_count-lt2.false); noted = c.in_ok-answer.ensures.noted; answer = c.in_ok-answer.ensures.answer })
+    found_ended (says c.args.self.now.zones.now) c.args.self.now.name.now c.in_ok-answer.field-0 answer.Outside
+    (Unsettled cause.Outside (record { name = c.args.self.now.name.now; term = 0 })) c.open.result c.args.asked.now c.answer.new.asked
+    (record { many = omega (arith, c.label_count.ensures.labels, c.if-label_count-lt2.false); noted = c.in_ok-answer.ensures.noted; answer = c.in_ok-answer.ensures.answer }) tt (λ counts go. refl)
     c.in-Outside.is c.open.ensures
 
 pub returns-in-Loop-clause-found : goal.returns-in-Loop-clause-found
 returns-in-Loop-clause-found c =
-    found_round (says c.args.self.now.zones.now) c.args.self.now.name.now c.in_ok-answer.field-0 c.astray.result c.args.asked.now c.answer.new.asked
-    (record { many = omega (arith, c.label_count.ensures.labels, c.if-label_count-lt2.false); noted = c.in_ok-answer.ensures.noted; answer = c.in_ok-answer.ensures.answer })
+    found_ended (says c.args.self.now.zones.now) c.args.self.now.name.now c.in_ok-answer.field-0 answer.Loop
+    (Temp cause.Alias (record { name = c.args.self.now.name.now; term = 0 })) c.astray.result c.args.asked.now c.answer.new.asked
+    (record { many = omega (arith, c.label_count.ensures.labels, c.if-label_count-lt2.false); noted = c.in_ok-answer.ensures.noted; answer = c.in_ok-answer.ensures.answer }) tt (λ counts go. refl)
     c.in-Loop.is c.astray.ensures
 
 pub returns-in-NoName-clause-found : goal.returns-in-NoName-clause-found

@@ -1,0 +1,5 @@
+pub mod Counting
+pub mod Leaves
+pub mod Listing
+pub mod OneList
+pub mod Telling
