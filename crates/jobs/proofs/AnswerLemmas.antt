@@ -34,10 +34,12 @@ pub file_refused : (p : Program) (g : Given) (job : p.Job) (why : Refusal) → p
 file_refused p g job why spells refused some = record {
   job = job;
   is_job = spells;
-  is_due = λ tell. elim (told_or_none g.files.told (p.meaning job).inputs tell) [
-    | inl told ↦ record { found = Err why; loads = refused told; behind = refl }
+  found = Err why;
+  loads = λ tell. elim (told_or_none g.files.told (p.meaning job).inputs tell) [
+    | inl told ↦ refused told
     | inr empty ↦ absurd (some empty)
   ];
+  behind = refl;
 }
 
 -- the job's answer is due
@@ -47,11 +49,9 @@ pub job_given : (p : Program) (g : Given) (job : p.Job) (loaded : Loaded) (due :
 job_given p g job loaded due spells done none is = record {
   job = job;
   is_job = spells;
-  is_due = λ tell. record {
-    found = Ok loaded;
-    loads = loads_told g.files (p.meaning job) loaded done none tell;
-    behind = is;
-  };
+  found = Ok loaded;
+  loads = loads_told g.files (p.meaning job) loaded done none;
+  behind = is;
 }
 
 -- and the best
@@ -62,11 +62,9 @@ pub job_best : (p : Program) → AreLawful p → (g : Given) (job : p.Job) (load
 job_best p laws g job loaded output spells done none is = record {
   job = job;
   is_job = spells;
-  is_best = λ tell. (
-    loaded,
-    loads_told g.files (p.meaning job) loaded done none tell,
-    (laws.lawful job).best (laws.ready g.words job spells) loaded output is,
-  );
+  loaded = loaded;
+  loads = loads_told g.files (p.meaning job) loaded done none;
+  is_best = (laws.lawful job).best (laws.ready g.words job spells) loaded output is;
 }
 
 -- ---- results

@@ -154,7 +154,9 @@ told_tells files m tell = grind (arith, tell)
 
 given_due : (p : Program) (g : Given) (due : Due) → IsTrue g.files.told → IsGiven p g due → WordsDue p g (spoken due)
 given_due p g due tell is =
-    job is.job due is.is_job (is.is_due (told_tells g.files (p.meaning is.job) tell)) refl
+    let owed : JobDue (p.meaning is.job) g.files.held due =
+    record { found = is.found; loads = is.loads (told_tells g.files (p.meaning is.job) tell); behind = is.behind } in
+    job is.job due is.is_job owed refl
 
 -- a line that is due, but for that of a read fault
 line_due : (p : Program) (g : Given) (after : FilesSeen) (status : ℕ) (line : List ℕ) → IsTrue g.files.told

@@ -42,22 +42,26 @@ reads_none (input ∷ inputs) = false
 abbrev pub tells : FilesSeen → Meaning → Bool
 tells files m = files.told || reads_none m.inputs
 
--- the words give a job, and this is due for it
+-- The words give a job, and this is due for it behind something that its files may come to: where they tell, that to
+-- which they come.
 pub record IsGiven (p : Program) (g : Given) (due : Due) : Type 0 where
   pub job : p.Job
   pub is_job : p.Spells g.words job
-  pub is_due : IsTrue (tells g.files (p.meaning job)) → JobDue (p.meaning job) g.files.held due
+  pub found : Result Loaded Refusal
+  pub loads : IsTrue (tells g.files (p.meaning job)) → Loads g.files.held (p.meaning job).inputs found
+  pub behind : Behind found (p.meaning job).IsDue due
 
 -- the words give no job
 abbrev pub IsUsage : Program → Given → Type 0
 IsUsage p g = (job : p.Job) → ¬ p.Spells g.words job
 
--- the words give a job, and this output is the best that it can have
+-- the words give a job, and this output is the best that it can have over what was loaded, in the same sense
 pub record IsBestOutput (p : Program) (g : Given) (output : Output) : Type 0 where
   pub job : p.Job
   pub is_job : p.Spells g.words job
-  pub is_best : IsTrue (tells g.files (p.meaning job)) → (loaded : Loaded)
-      × Loads g.files.held (p.meaning job).inputs (Ok loaded) × (p.meaning job).IsBest loaded output
+  pub loaded : Loaded
+  pub loads : IsTrue (tells g.files (p.meaning job)) → Loads g.files.held (p.meaning job).inputs (Ok loaded)
+  pub is_best : (p.meaning job).IsBest loaded output
 
 -- the words give a job, and the calls of a file of the job failed; no file before it is refused
 pub record IsReadFault (p : Program) (g : Given) (after : FilesSeen) (file : List ℕ) : Type 0 where

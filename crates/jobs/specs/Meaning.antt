@@ -1,5 +1,5 @@
 -- What a job means.
-use Rattle.std.specs.Prelude.{ℕ, List, ◌≡◌, Ok, Result, IfOk, IfErr, IfSome, IfNone}
+use Rattle.std.specs.Prelude.{ℕ, List, ◌≡◌, Result, IfOk, IfErr, IfSome, IfNone}
 use Rattle.std.specs.declared.option.Option.{Option}
 use Rattle.std.specs.declared.alloc.AllocError.{AllocError}
 use Rattle.spfc_words.specs.declared.input.Input.{Input}

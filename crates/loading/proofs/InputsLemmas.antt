@@ -20,22 +20,22 @@ use Rattle.loading.specs.Loading.{inputs_before, FaultAmong, StopsAt, StopsAmong
 use Rattle.loading.proofs.StopLemmas.{fails_later}
 
 -- ---- one file
-pub short_file : (held : Option (List ℕ)) (file bytes : List ℕ) → IsLoaded held (most_bytes + 1) (Some bytes)
-    → length bytes ≤ most_bytes → FileDue held file (Ok bytes)
-short_file None file bytes is few = absurd is
-short_file (Some contents) file bytes is few =
-    let count = length-take (most_bytes + 1) contents in
-    let size : length bytes ≡ length (take (most_bytes + 1) contents) = ap (λ (l : List ℕ). length l) is in
-    let small : length contents ≤ most_bytes = omega (arith, count, size, few) in
-    let all : take (most_bytes + 1) contents ≡ contents = take_all (most_bytes + 1) contents (omega (arith, small)) in
+pub short_file : (most : ℕ) (held : Option (List ℕ)) (file bytes : List ℕ) → most_bytes < most
+    → IsLoaded held most (Some bytes) → length bytes ≤ most_bytes → FileDue held file (Ok bytes)
+short_file most None file bytes above is few = absurd is
+short_file most (Some contents) file bytes above is few =
+    let count = length-take most contents in
+    let size : length bytes ≡ length (take most contents) = ap (λ (l : List ℕ). length l) is in
+    let small : length contents ≤ most_bytes = omega (arith, count, size, few, above) in
+    let all : take most contents ≡ contents = take_all most contents (omega (arith, small, above)) in
     whole contents refl small (ap Ok (is ∙ all))
 
-pub large_file : (held : Option (List ℕ)) (file bytes : List ℕ) → IsLoaded held (most_bytes + 1) (Some bytes)
+pub large_file : (most : ℕ) (held : Option (List ℕ)) (file bytes : List ℕ) → IsLoaded held most (Some bytes)
     → most_bytes < length bytes → FileDue held file (Err (LongFile file))
-large_file None file bytes is many = absurd is
-large_file (Some contents) file bytes is many =
-    let count = length-take (most_bytes + 1) contents in
-    let size : length bytes ≡ length (take (most_bytes + 1) contents) = ap (λ (l : List ℕ). length l) is in
+large_file most None file bytes is many = absurd is
+large_file most (Some contents) file bytes is many =
+    let count = length-take most contents in
+    let size : length bytes ≡ length (take most contents) = ap (λ (l : List ℕ). length l) is in
     long_file contents refl (omega (arith, count, size, many)) refl
 
 -- ---- files in order

@@ -1,7 +1,9 @@
 //! Reading the files of a job, in order.
-ghost use Rattle.std.specs.Prelude.{◌≡◌, [], Ok, Err, IsTrue, IfOk, IfErr, OnOk};
+ghost use Rattle.std.specs.Prelude.{◌≡◌, ◌+◌, [], Ok, Err, IsTrue, IfOk, IfErr, OnOk};
+ghost use Rattle.spfc_outer.specs.Moved.{Takes};
 ghost use Rattle.spfc_outer.specs.Seen.{Keeps};
-ghost use Rattle.loading.specs.Loading.{FileDue, ZonesDue, InputDue, Loads, nothing, StopsAt, StopsAmong};
+ghost use Rattle.loading.specs.Loading.{FileDue, ZonesDue, InputDue, Loads, nothing, most_bytes};
+ghost use Rattle.loading.specs.Loading.{StopsAt, StopsAmong};
 ghost use Rattle.loading.specs.Memory.{ErrorIs};
 
 use crate::lending::lend;
@@ -86,11 +88,18 @@ fn read_zone<F: Files>(
     }
 }
 
-/// The contents of a file that is no zone.
-fn read_file<F: Files>(alloc: Global, files: &mut F, file: &[u8]) -> Result<Bytes, OrMemory<Stop>>
+/// The contents of a file that is no zone, of which at most 8,388,609 bytes are taken. Refused are a name of no file, and
+/// a file of more than 8,388,608 bytes; `ReadFault` comes only where its calls failed.
+pub fn read_file<F: Files>(
+    alloc: Global,
+    files: &mut F,
+    file: &[u8],
+) -> Result<Bytes, OrMemory<Stop>>
     ensures keeps { Keeps (F.seen files.old) (F.seen files.new) }
     ensures done { IsTrue (F.seen files.old).told
         → IfOk result (λ contents. FileDue ((F.seen files.old).held file.now) file.now (Ok contents)) }
+    ensures takes { IsTrue (F.seen files.old).told → Takes (most_bytes + 1) ((F.seen files.old).held file.now)
+        (files.new ≡ files.old) (F.is_chosen files.new) (F.rest files.new) }
     ensures stops { IfErr result (ErrorIs (StopsAt (F.seen files.old) (F.seen files.new) file.now
         (λ why. FileDue ((F.seen files.old).held file.now) file.now (Err why)))) }
 {

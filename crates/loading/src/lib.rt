@@ -11,7 +11,7 @@ mod refusal;
 mod stop;
 mod text;
 
-pub use inputs::load_inputs;
+pub use inputs::{load_inputs, read_file};
 pub use laws::one_loading;
 pub use lending::lend;
 pub use loaded::Loaded;

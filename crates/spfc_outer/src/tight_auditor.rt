@@ -39,6 +39,7 @@ impl Auditor for TightAuditor {
         ensures heard { IfOk result (HasHeard (tight_seen self.old) question.now (tight_seen self.new)) }
         ensures unheard { OnErr result (tight_seen self.new ≡ tight_seen self.old) }
         ensures refuses { (tight_seen self.old).count ≡ refused_at self.old → IsErr result }
+        ensures stays { refused_at self.new ≡ refused_at self.old }
     {
         if self.keep.count() == self.refuse {
             return Err(AllocError);
