@@ -5,8 +5,8 @@ mod Domains
 mod LikeLemmas
 mod LinkLemmas
 mod ListVerdicts
-mod OneChain
-mod OneReason
+pub mod OneChain
+pub mod OneReason
 mod Prefixes
 pub mod Published
 mod PublishedChains
