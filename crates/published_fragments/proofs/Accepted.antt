@@ -1,5 +1,5 @@
 -- What is due for a policy is what is published of it.
-use Rattle.std.proofs.Common.{◌≡◌, ℕ, List, length, Ok, Err, Result, sym, ap, subst}
+use Rattle.std.proofs.Common.{◌≡◌, ℕ, List, length, Ok, refl, sym, ap, subst}
 use Rattle.zone_answers.specs.Names.{other_text_of}
 use Rattle.zone_answers.specs.Zone.{Zone}
 use Rattle.spf_grammar.specs.declared.verdict.Verdict.{Verdict}
@@ -11,7 +11,6 @@ use Rattle.fewest_terms.specs.Chosen.{chosen_list}
 use Rattle.fewest_terms.specs.Tables.{need_rows}
 use Rattle.fewest_terms.specs.Totals.{total}
 use Rattle.record_pack.specs.Records.{HasFewest, IsFittingCut}
-use Rattle.loading.specs.declared.refusal.Refusal.{Refusal}
 use Rattle.cert_checker.specs.Forms.{or_root}
 use Rattle.cert_checker.specs.Published.{IsPublished}
 use Rattle.cert_checker.specs.Reasons.{others_at}
@@ -21,13 +20,8 @@ use Rattle.publishing.specs.Policy.{PolicyDue, kept, refused}
 use Rattle.publishing.specs.Published.{ListDue, alias, packed, taken, too_big, written}
 use Rattle.publishing.specs.Settings.{AreLegal}
 use Rattle.publishing.specs.declared.settings.ChainSettings.{ChainSettings}
+use Rattle.publishing.proofs.BestPublication.{ok_not_err, ok_once}
 use Rattle.published_fragments.specs.Accepted.{DueHasNoReason, DueIsCertified}
-
-bytes_once : {a b : List ℕ} → (let x : Result (List ℕ) Refusal = Ok a in x ≡ Ok b) → a ≡ b
-bytes_once e = cc
-
-no_refusal : {a : List ℕ} {why : Refusal} → (let x : Result (List ℕ) Refusal = Ok a in x ≡ Err why) → ⊥
-no_refusal e = cc
 
 module _ (settings : ChainSettings) (limits : Limits) (zones : List Zone) (bytes : List ℕ) (legal : AreLegal settings) where
   same_others : other_text_of zones settings.domain.name ≡ others_at zones settings.domain.text
@@ -36,8 +30,8 @@ module _ (settings : ChainSettings) (limits : Limits) (zones : List Zone) (bytes
   list_published : (v4 v6 : ℕ → Verdict) → AllHave (says zones) limits settings.domain.text (verdict_at v4 v6)
       → ListDue settings zones (chosen_list v4 v6) (need_rows 32 v4 32 0) (need_rows 128 v6 128 0) (total v4 v6) (Ok bytes)
       → IsPublished zones limits settings.domain.text settings.label settings.ttl settings.size bytes
-  list_published v4 v6 all (too_big none is) = absurd (no_refusal is)
-  list_published v4 v6 all (taken ends k chosen first is) = absurd (no_refusal is)
+  list_published v4 v6 all (too_big none is) = absurd (ok_not_err is)
+  list_published v4 v6 all (taken ends k chosen first is) = absurd (ok_not_err is)
   list_published v4 v6 all (written ends chosen free is) = record {
     v4 = v4;
     v6 = v6;
@@ -48,12 +42,12 @@ module _ (settings : ChainSettings) (limits : Limits) (zones : List Zone) (bytes
     verdicts = all;
     fits = subst (λ others. IsFittingCut settings.domain.text settings.label settings.size others (chosen_list v4 v6) ends) same_others chosen.fits;
     fewest = subst (λ others. HasFewest settings.domain.text settings.label settings.size others (chosen_list v4 v6) ends) same_others chosen.fewest;
-    written = bytes_once is;
+    written = ok_once bytes _ _ refl is;
   }
 
   due_published : PolicyDue settings limits zones (Ok bytes) → IsPublished zones limits settings.domain.text settings.label settings.ttl settings.size bytes
-  due_published (refused address outcome least is) = absurd (no_refusal is)
-  due_published (kept v4 v6 all (alias own is)) = absurd (no_refusal is)
+  due_published (refused address outcome least is) = absurd (ok_not_err is)
+  due_published (kept v4 v6 all (alias own is)) = absurd (ok_not_err is)
   due_published (kept v4 v6 all (packed none due)) = list_published v4 v6 all due
 
 pub due_is_certified : DueIsCertified
