@@ -1,5 +1,5 @@
 -- One reason at most is the first that holds, and none beside a yes.
-use Rattle.std.proofs.Common.{◌≡◌, ◌≢◌, ℕ, ◌≤◌, inl, inr, List, [], ◌∷◌, length, refl, sym, ap, ap₂, subst, arith}
+use Rattle.std.proofs.Common.{◌≡◌, ◌≢◌, ℕ, ◌≤◌, inl, inr, List, [], ◌∷◌, length, refl, sym, ap, ap₂, ◌∙◌, subst, arith}
 use Rattle.addr_bits.specs.declared.address.Address.{Address}
 use Rattle.addr_bits.specs.declared.address.Family.TheVariants as family
 use Rattle.master_reader.specs.Reading.{Faults}
@@ -27,7 +27,7 @@ use Rattle.bound_table.proofs.Rising.{table_rises}
 use Rattle.record_pack.specs.Records.{IsFittingCut}
 use Rattle.cert_checker.specs.Certified.{IsCertified}
 use Rattle.cert_checker.specs.Forms.{AreLinked, HasChainForm, HasShorterCut, HaveOwners, IsRecordsFault, ReadChain, TextsFit, name_at, terms_of}
-use Rattle.cert_checker.specs.Laws.{NoReasonBesideYes, OneReason}
+use Rattle.cert_checker.specs.Laws.{NoReasonBesideYes, OneReason, OneYes}
 use Rattle.cert_checker.specs.Reasons.{AllDecided, HasOtherRecords, HasOtherTotal, HasTable, IsBadTable, IsFaultyTable, IsLeastOther, IsNoChain, IsOtherChain, IsReason, IsTableFault, SameChain, others_at, verdicts_in}
 use Rattle.cert_checker.specs.declared.answer.No.{No}
 use Rattle.cert_checker.specs.declared.answer.No.TheVariants.{Refused, NotZone, NotChain, Verdict, Table, Terms, Records, Memory}
@@ -251,3 +251,9 @@ one_reason zones limits domain size bytes a b ma mb x y = either zones limits do
 
 pub no_reason_beside_yes : NoReasonBesideYes
 no_reason_beside_yes zones limits domain size bytes answer why c x = beside zones limits domain size bytes answer why c x
+
+pub one_yes : OneYes
+one_yes zones limits domain size bytes a b x y =
+    let terms : a.terms ≡ b.terms = x.terms ∙ ap length (one_terms domain bytes x.chain y.chain) ∙ sym y.terms in
+    let records : a.records ≡ b.records = x.records ∙ ap length (one_records domain bytes x.chain y.chain) ∙ sym y.records in
+    λ i. record { terms = terms i; records = records i }

@@ -19,3 +19,8 @@ abbrev pub NoReasonBesideYes : Type 0
 NoReasonBesideYes = (zones : List Zone) (limits : Limits) (domain : List ℕ) (size : ℕ) (bytes : List ℕ) (yes : Yes)
     (no : No) → IsCertified zones limits domain size bytes yes → IsReason zones limits domain size bytes no
     → no ≡ Memory
+
+-- they are accepted with the same numbers, whoever judges them
+abbrev pub OneYes : Type 0
+OneYes = (zones : List Zone) (limits : Limits) (domain : List ℕ) (size : ℕ) (bytes : List ℕ) (a b : Yes)
+    → IsCertified zones limits domain size bytes a → IsCertified zones limits domain size bytes b → a ≡ b

@@ -1,5 +1,5 @@
 //! What holds of every certificate. The functions do nothing: what they promise is the law.
-ghost use Rattle.cert_checker.specs.Laws.{NoReasonBesideYes, OneReason};
+ghost use Rattle.cert_checker.specs.Laws.{NoReasonBesideYes, OneReason, OneYes};
 ghost use Rattle.cert_checker.specs.Published.{PublishedHasNoReason, PublishedIsCertified};
 
 /// Beside want of memory one reason at most is the first that holds.
@@ -10,6 +10,11 @@ pub fn one_reason()
 /// Of a fragment that is accepted no reason holds.
 pub fn no_reason_beside_yes()
     ensures { NoReasonBesideYes }
+{}
+
+/// A fragment is accepted with one number of terms and one of records.
+pub fn one_yes()
+    ensures { OneYes }
 {}
 
 /// What was published of a policy is certified, with its own numbers of terms and of records, and no reason holds of

@@ -11,4 +11,4 @@ mod verdicts;
 
 pub use answer::{No, Yes};
 pub use certificate::verify;
-pub use laws::{no_reason_beside_yes, one_reason, published_is_certified};
+pub use laws::{no_reason_beside_yes, one_reason, one_yes, published_is_certified};

@@ -21,7 +21,7 @@ use Rattle.publishing.specs.declared.settings.ChainSettings.{ChainSettings}
 pub ok_not_err : {bytes : List ℕ} {why : Refusal} → Ok bytes ≡ Err why → ⊥
 ok_not_err e = cc
 
-ok_once : (a b : List ℕ) (r : Result (List ℕ) Refusal) → r ≡ Ok a → r ≡ Ok b → a ≡ b
+pub ok_once : (a b : List ℕ) (r : Result (List ℕ) Refusal) → r ≡ Ok a → r ≡ Ok b → a ≡ b
 ok_once a b r e f = cc
 
 -- the names behind the first are free
