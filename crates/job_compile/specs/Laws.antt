@@ -40,10 +40,10 @@ one_compile (domain ∷ words) a b x y =
     one_inputs Zones (behind_options compile_options words) a.inputs b.inputs x.zones y.zones in
     λ i. record { settings = settings i; limits = limits i; trace = trace i; inputs = inputs i }
 
-ok_once : {a b : List ℕ} → Ok {E = Refusal} a ≡ Ok b → a ≡ b
+ok_once : {a b : List ℕ} → (let x : Result (List ℕ) Refusal = Ok a in x ≡ Ok b) → a ≡ b
 ok_once e = cc
 
-err_once : {a b : Refusal} → Err {T = List ℕ} a ≡ Err b → a ≡ b
+err_once : {a b : Refusal} → (let x : Result (List ℕ) Refusal = Err a in x ≡ Err b) → a ≡ b
 err_once e = cc
 
 ok_not_err : {a : List ℕ} {b : Refusal} → Ok a ≡ Err b → ⊥

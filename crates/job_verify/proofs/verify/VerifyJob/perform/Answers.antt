@@ -1,4 +1,5 @@
 use Rattle.std.proofs.Common.{refl}
+use Rattle.job_verify.proofs.Denials.{denial_due}
 use Rattle.job_verify.specs.Meaning.{accepted}
 use Rattle.job_verify.proofs.verify.VerifyJob.perform.Goals as goal
 
@@ -11,4 +12,11 @@ returns-in_ok-yes_line-in-Ok c = record {
     untold = c.new.ensures;
   }) refl;
   refused = tt;
+}
+
+pub returns-in-Err : goal.returns-in-Err
+returns-in-Err c = record {
+  done = tt;
+  refused = denial_due c.args.self.now c.args.loaded.now c.in-Err.no c.refused.result c.refused.ensures
+      (rw (c.as_slice-domain.ensures, c.as_slice.ensures) at c.in-Err.ensures.reason);
 }
