@@ -17,7 +17,7 @@ use Rattle.publishing.specs.Policy.{PolicyDue}
 use Rattle.publishing.proofs.LegalSettings.{one_settings, settings_legal}
 use Rattle.publishing.proofs.OnePolicy.{one_policy_due}
 use Rattle.publishing.proofs.ShortestPolicy.{policy_best}
-use Rattle.job_compile.specs.Meaning.{IsReady, IsBest, IsOutput, AreTraced, CompileDue, meaning_of_compile}
+use Rattle.job_compile.specs.Meaning.{IsReady, IsBest, AreTraced, CompileDue, meaning_of_compile}
 use Rattle.job_compile.specs.Words.{SpellsCompile, compile_options}
 use Rattle.job_compile.specs.declared.compile.Compile.{Compile}
 

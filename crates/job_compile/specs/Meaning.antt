@@ -1,11 +1,10 @@
 -- What the job means.
-use Rattle.std.specs.Prelude.{◌≡◌, ℕ, Bool, true, false, List, [], Ok, Err}
+use Rattle.std.specs.Prelude.{◌≡◌, Bool, true, false, List, [], Ok, Err}
 use Rattle.zone_answers.specs.declared.answer.Question.{Question}
 use Rattle.spf_model.specs.Result.{AreModest}
 use Rattle.spf_model.specs.Run.{says}
 use Rattle.symbolic_check.specs.Evaluation.{AreAsked}
 use Rattle.loading.specs.declared.loaded.Loaded.{Loaded}
-use Rattle.loading.specs.declared.refusal.Refusal.{Refusal}
 use Rattle.jobs.specs.Meaning.{Due, Refuses, Gives, Meaning}
 use Rattle.jobs.specs.declared.output.Output.{Output}
 use Rattle.publishing.specs.Policy.{PolicyDue, IsShortest}

@@ -8,3 +8,6 @@ pub returns-then-not-branch : goal.returns-then-not-branch
 returns-then-not-branch c =
     let none = rw c.behind_options.ensures at c.in_ok-push_zone_words.ensures.none in
     record { spelled = tt; none = λ job is. none (search rules) job.inputs is.zones }
+
+pub returns-in_default-read_flag : goal.returns-in_default-read_flag
+returns-in_default-read_flag c = record { spelled = tt; none = λ job is. c.in_default-read_flag.ensures job.trace is.tracing }
