@@ -22,8 +22,8 @@ class Entry:
 
 _NO_LIST = 'such a policy has no list of networks: take the term out, or see "A policy with macros"'
 _COPY = (
-    "give a gathered file, or a copy with only the names that the policy asks for and what they answer, the TXT records "
-    "of the domain, and what stands at or below the names of the chain"
+    "give a gathered file, or a copy with only the names that the policy asks for and what they answer, the TXT "
+    "records of the domain, and what stands at or below the names of the chain"
 )
 
 CAUSES: Mapping[str, Entry] = {

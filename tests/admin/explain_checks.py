@@ -20,6 +20,9 @@ _DOCUMENT = TOP / "docs/ADMINISTRATORS.md"
 _HEADS = ("What it means", "What helps")
 _TABLES = [("CAUSE", CAUSES), ("Line", LINES), ("Line", REASONS), ("KIND", KINDS)]
 
+_BY_OTHERS = ("refused ADDRESS", "bad zone", "no zone")
+"""Lines whose cause or kind has an entry of its own, under which their cases stand."""
+
 _SAID = {
     "refused-syntax": "This is no term of an SPF record: foo",
     "chain-name-is-taken": "This label is free in the files: --label _spfa",
@@ -77,7 +80,7 @@ def _cases(scene: Scene) -> Report:
         )
         report.expect(f"explain {key} by {folder.name}", (0, "", True), (ended.status, ended.line, is_said))
         wanted.pop(key)
-    report.expect("without a case", [], [key for key in wanted if not key.startswith(("refused ADDRESS", "bad zone"))])
+    report.expect("without a case", [], [key for key in wanted if not key.startswith(_BY_OTHERS)])
     return report
 
 

@@ -177,7 +177,8 @@ def _nights(nights: Nights, report: Report) -> None:
     report.expect("night 3, the other label", (False, True), ("_spfa1" in new, f"redirect=_spfb1.{_CORP.name}" in new))
     report.expect("night 3, the fragment", nights.wanted("--label", "_spfb"), new)
     nights.serve(new, chain)
-    lines = f"refused {_CORP.name} | published: refused 0.0.0.0 records {_CORP.name} 0 | refused taken 1 _spfa1.{_CORP.name}"
+    published = f"published: refused 0.0.0.0 records {_CORP.name} 0"
+    lines = f"refused {_CORP.name} | {published} | refused taken 1 _spfa1.{_CORP.name}"
     report.expect("two records", (2, lines, ""), nights.night())
     nights.serve(new)
     report.expect("night 4, published", same, nights.night())

@@ -44,11 +44,12 @@ def _commands(scene: Scene) -> Report:
     for name, command in COMMANDS.items():
         zones = ["example.com=zone"] if command.behind else []
         words = [name, *(_PLACES[place] for place in command.places)]
-        for option in OPTIONS:
+        has_command = scene.spfc(*words, *zones, folder=folder).status != 4
+        report.expect(f"the command {name}", True, has_command)
+        for option in OPTIONS if has_command else ():
             given = [option, _VALUES[option]] if _VALUES[option] else [option]
             is_usage = scene.spfc(*words, *given, *zones, folder=folder).status == 4
             report.expect(f"{name} {option}", option not in command.options, is_usage)
-        report.expect(name, False, scene.spfc(*words, *zones, folder=folder).status == 4)
     return report
 
 

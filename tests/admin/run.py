@@ -23,6 +23,8 @@ import servers
 from scene import TOP, ZONES, Report, Scene
 
 Check = Callable[[], Report]
+_SHOWN = 5
+"""Lines of what is wrong that are printed of one check."""
 
 
 def _arguments() -> argparse.Namespace:
@@ -74,8 +76,10 @@ def _run(checks: Sequence[Check], jobs: int) -> Report:
     with ThreadPoolExecutor(jobs) as pool:
         for report in pool.map(_report, checks):
             total.add(report)
-            for line in report.wrong:
+            for line in report.wrong[:_SHOWN]:
                 print(f"test-admin: {line}", flush=True)
+            if len(report.wrong) > _SHOWN:
+                print(f"test-admin: .. and {len(report.wrong) - _SHOWN} more of this check", flush=True)
     return total
 
 
