@@ -29,10 +29,15 @@ OPTIONS: Mapping[str, Option] = {
         "L", "what the names behind the first begin with", "_ and up to 60 letters, digits, - and _", "_spf"
     ),
     "--trace": Option("", "tells each question of deps on standard error"),
+    "--weakest": Option("", "gives each address the weakest of the verdicts of the domains, and not the strongest"),
 }
 READING = ("--lookups", "--voids", "--exchanges")
+READING_WORD = "READING"
+"""What stands for these where all options are listed."""
 WITH = "with"
 """The word between the zones of two policies."""
+MORE = ".."
+"""What a place ends with that takes as many words as stand there."""
 _ZONES = "ORIGIN=FILE.."
 
 
@@ -47,8 +52,19 @@ class Command:
 
     def synopsis(self, name: str) -> str:
         """How the words go."""
-        options = (f"[{option} {OPTIONS[option].value}".rstrip() + "]" for option in self.options)
+        return self._words(name, [_bracketed(option) for option in self.options])
+
+    def short(self, name: str) -> str:
+        """The same, with one word for the reading options."""
+        others = [_bracketed(option) for option in self.options if option not in READING]
+        return self._words(name, [f"[{READING_WORD}]", *others] if len(others) < len(self.options) else others)
+
+    def _words(self, name: str, options: Sequence[str]) -> str:
         return " ".join([name, *self.places, *options, self.behind]).rstrip()
+
+
+def _bracketed(option: str) -> str:
+    return f"[{option} {OPTIONS[option].value}".rstrip() + "]"
 
 
 COMMANDS: Mapping[str, Command] = {
@@ -65,6 +81,12 @@ COMMANDS: Mapping[str, Command] = {
         READING,
         f"{_ZONES} [{WITH} {_ZONES}]",
         "for which addresses two policies, or one before and after a change, have different verdicts",
+    ),
+    "join": Command(
+        ("DOMAIN", f"DOMAIN{MORE}"),
+        (*READING, "--weakest", "--size", "--ttl", "--label"),
+        _ZONES,
+        "the records to publish for one policy that gives each address the strongest verdict of 2 to 8 domains",
     ),
     "verify": Command(
         ("DOMAIN", "FILE"),
@@ -93,11 +115,15 @@ class Words:
     @property
     def policies(self) -> list[tuple[str, Sequence[str]]]:
         """The domain of each policy that is read, with the zone words over which it is."""
-        if self.command != "compare":
-            return [(self.places[0], self.zones)]
-        at = self.zones.index(WITH) if WITH in self.zones else len(self.zones)
-        first, others = self.zones[:at], self.zones[at + 1 :]
-        return list(zip(self.places, (first, others or first)))
+        match self.command:
+            case "join":
+                return [(domain, self.zones) for domain in self.places]
+            case "compare":
+                at = self.zones.index(WITH) if WITH in self.zones else len(self.zones)
+                first, others = self.zones[:at], self.zones[at + 1 :]
+                return list(zip(self.places, (first, others or first)))
+            case _:
+                return [(self.places[0], self.zones)]
 
     def with_options(self, dropped: str, *added: str) -> list[str]:
         """All words, without this option and with these besides."""
@@ -110,10 +136,17 @@ def part(words: Sequence[str]) -> Words | None:
     command = COMMANDS.get(words[0]) if words else None
     if command is None:
         return None
-    start = 1 + len(command.places)
+    start = 1 + _count(command.places, words[1:])
     rest, options = list(words[start:]), []
     while rest and rest[0] in OPTIONS:
         count = 1 if OPTIONS[rest[0]].is_flag else 2
         options.append(tuple(rest[:count]))
         del rest[:count]
     return Words(words[0], words[1:start], options, rest)
+
+
+def _count(places: Sequence[str], words: Sequence[str]) -> int:
+    """How many words stand in the places, the last of which may take more than one."""
+    if not places[-1].endswith(MORE):
+        return len(places)
+    return next((number for number, word in enumerate(words) if word in OPTIONS or "=" in word), len(words))

@@ -5,26 +5,28 @@ import subprocess
 from collections.abc import Iterator
 from pathlib import Path
 
-from admin.commands import COMMANDS, OPTIONS, WITH
+from admin.commands import COMMANDS, OPTIONS, READING, READING_WORD, WITH
 
 _PROVED = (
     "Proved: the records that compile writes give every IPv4 and every IPv6 address the verdict that check_host "
     "(RFC 7208) gives it over the files that were read, and no list of networks with these verdicts is shorter."
 )
-_TOOLS = {
-    "spfc-gather": "asks DNS for all that a policy rests on, and writes it as one file",
-    "spfc-nightly": "says whether what is published still says what the policy says",
-    "spfc-explain": "says in plain words what a line means, and what helps",
+_PLACES = {
+    "DOMAIN": "a domain, without a final dot",
+    "ADDRESS": "an IPv4 or an IPv6 address",
+    "FILE": "the file that is judged",
 }
+_MORE = "spfc help COMMAND: more of a command; spfc version: what is proved"
+_TOOLS = "spfc-gather asks DNS, spfc-nightly watches what is published, spfc-explain says what a line means"
 
 
 def overview() -> str:
     """The synopsis of every command, on one screen."""
     lines = ["spfc, a compiler for SPF policies kept in DNS master files", ""]
     for name, command in COMMANDS.items():
-        lines += [f"spfc {command.synopsis(name)}", f"    {command.purpose}"]
-    lines += ["spfc help COMMAND", "    more of a command", "spfc version", "    the version, and what is proved", ""]
-    lines += [f"{name:13} {purpose}" for name, purpose in _TOOLS.items()]
+        lines += [f"spfc {command.short(name)}", f"    {command.purpose}"]
+    reading = " ".join(f"[{name} {OPTIONS[name].value}]" for name in READING)
+    lines += [f"{READING_WORD}: {reading}", _MORE, _TOOLS]
     return "\n".join(lines) + "\n"
 
 
@@ -33,7 +35,9 @@ def of_command(name: str) -> str | None:
     command = COMMANDS.get(name)
     if command is None:
         return None
-    lines = [f"spfc {command.synopsis(name)}", f"    {command.purpose}", *_options(command.options)]
+    lines = [f"spfc {command.synopsis(name)}", f"    {command.purpose}"]
+    lines += [f"  {place:13} {_PLACES[place]}" for place in dict.fromkeys(command.places) if place in _PLACES]
+    lines += _options(command.options)
     if command.behind:
         lines.append(
             "  ORIGIN=FILE   FILE is the master file of the zone at ORIGIN; 1 to 64 such words, of different origins"

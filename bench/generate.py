@@ -7,6 +7,7 @@
     generate.py addresses N     a policy that asks for one host, and N addresses of this host
     generate.py exchanges N     a policy with an `mx` term, and N exchanges, each with an address of both families
     generate.py terms N         a record of 1,600 random networks, and N terms `a` behind them
+    generate.py brands N        eight policies of N random networks each, of which neighbours share seven eighths
 """
 import ipaddress, sys
 M64 = (1 << 64) - 1
@@ -46,7 +47,10 @@ def terms(n):
     nets = [term(q, b, a, l) for (i, q, b, a, l), _ in zip((d for d in draws(0) if d[2] == 32), range(1600))]
     print('@ TXT %s' % quoted(' '.join(['v=spf1'] + nets + ['a'] * n + ['-all'])))
     print('@ A %s' % host4(0))
-MODES = {'zone': (zone, 2), 'comment': (comment, 1), 'records': (records, 1), 'addresses': (addresses, 1), 'exchanges': (exchanges, 1), 'terms': (terms, 1)}
+def brands(n):
+    nets = [term(q, b, a, l) for (i, q, b, a, l), _ in zip(draws(0), range(n + 7 * n // 8))]
+    for k in range(8): print('b%d TXT %s' % (k, quoted(' '.join(['v=spf1'] + nets[k * n // 8:k * n // 8 + n] + ['~all']))))
+MODES = {'zone': (zone, 2), 'comment': (comment, 1), 'records': (records, 1), 'addresses': (addresses, 1), 'exchanges': (exchanges, 1), 'terms': (terms, 1), 'brands': (brands, 1)}
 if __name__ == '__main__':
     mode, count = MODES.get(sys.argv[1] if len(sys.argv) > 1 else '', (None, 0))
     if mode is None or len(sys.argv) != 2 + count: sys.exit(__doc__)

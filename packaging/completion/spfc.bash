@@ -2,7 +2,8 @@
 
 _spfc() {
     local word=${COMP_WORDS[COMP_CWORD]} before=${COMP_WORDS[COMP_CWORD - 1]} tool=${COMP_WORDS[0]##*/}
-    local commands='compile check deps compare verify trial' reading='--lookups --voids --exchanges' options=
+    local commands='compile check deps compare join verify trial' options=
+    local reading='--lookups --voids --exchanges'
     COMPREPLY=()
     case $before in
         --lookups | --voids | --exchanges | --size | --ttl | --label | --labels | --max-lost | --tries | --time | --jobs | -p)
@@ -30,6 +31,7 @@ _spfc() {
                 help) options=$commands ;;
                 compile) options="$reading --size --ttl --label --trace" ;;
                 verify) options="$reading --size" ;;
+                join) options="$reading --weakest --size --ttl --label" ;;
                 check | deps) options=$reading ;;
                 compare) options="$reading with" ;;
             esac

@@ -8,12 +8,20 @@ import sys
 from collections.abc import Callable, Iterator
 from pathlib import Path
 
-from scene import TOP, Ended, Report, Scene, run
+from scene import TOP, Clock, Ended, Report, Scene, run
+from servers import may_run_in
 
 sys.path.insert(0, str(TOP))
 from admin.commands import COMMANDS, OPTIONS  # noqa: E402
 
-_PLACES = {"DOMAIN": "example.com", "ADDRESS": "192.0.2.1", "FILE": "zone", "START": "0", "N": "1"}
+_PLACES = {
+    "DOMAIN": "example.com",
+    "DOMAIN..": "b.example.com",
+    "ADDRESS": "192.0.2.1",
+    "FILE": "zone",
+    "START": "0",
+    "N": "1",
+}
 _VALUES = {
     "--lookups": "11",
     "--voids": "3",
@@ -22,6 +30,7 @@ _VALUES = {
     "--ttl": "0",
     "--label": "_a",
     "--trace": "",
+    "--weakest": "",
 }
 _TOOLS = ("spfc-gather", "spfc-nightly", "spfc-explain")
 _ZONE = '@ IN TXT "v=spf1 ip4:192.0.2.0/24 -all"\n'
@@ -32,7 +41,7 @@ def checks(scene: Scene) -> Iterator[tuple[str, Callable[[], Report]]]:
     yield "commands", lambda: _commands(scene)
     yield "help", lambda: _help(scene)
     yield "man", _man
-    if shutil.which("dpkg-deb"):
+    if shutil.which("dpkg-deb") and may_run_in(scene.scratch):
         yield "package", lambda: _package(scene)
 
 
@@ -124,7 +133,8 @@ def _at_a_terminal(command: list[str], folder: Path) -> str:
     """The last line that a person sees."""
     ours, theirs = pty.openpty()
     with os.fdopen(ours, "rb", buffering=0) as seen:
-        subprocess.run(command, cwd=folder, stdin=subprocess.DEVNULL, stdout=theirs, stderr=theirs, check=False)
+        how = {"stdin": subprocess.DEVNULL, "stdout": theirs, "stderr": theirs}
+        subprocess.run(command, cwd=folder, timeout=Clock.left(), check=False, **how)
         os.close(theirs)
         lines = seen.read(4096).decode().split()
     return " ".join(lines[1:])

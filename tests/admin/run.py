@@ -2,6 +2,7 @@
 
 import argparse
 import os
+import shutil
 import signal
 import sys
 import tempfile
@@ -12,6 +13,7 @@ from contextlib import ExitStack
 from dataclasses import replace
 from functools import partial
 from pathlib import Path
+from typing import NoReturn
 
 import explain_checks
 import faults
@@ -20,9 +22,11 @@ import gather_checks
 import nightly_checks
 import package_checks
 import servers
-from scene import TOP, ZONES, Report, Scene
+from scene import TOP, ZONES, Clock, Report, Scene
 
 Check = Callable[[], Report]
+_SECONDS = 600
+"""After which the run comes to its end, where --seconds says nothing else."""
 _SHOWN = 5
 """Lines of what is wrong that are printed of one check."""
 
@@ -36,6 +40,7 @@ def _arguments() -> argparse.Namespace:
     parser.add_argument("--forwarding", action="store_true", help="gather each case from a forwarding named too")
     parser.add_argument("--faults", action="store_true", help="plant faults in the tools, and see that they are found")
     parser.add_argument("--addresses", type=int, default=10, help="try so many addresses in each main case")
+    parser.add_argument("--seconds", type=int, default=_SECONDS, help="come to an end after so many, whatever happens")
     parser.add_argument("--jobs", type=int, default=len(os.sched_getaffinity(0)), help="run so many checks at once")
     parser.add_argument("names", metavar="NAME", nargs="*", help="these checks alone, by their names")
     return parser.parse_args()
@@ -60,7 +65,7 @@ def _others(
     if arguments.forwarding:
         others.append(stack.enter_context(servers.forwarding(scratch / "forwarding", upstream)))
     if arguments.nsd and servers.has_tool("nsd"):
-        others.append(stack.enter_context(servers.nsd(scratch / "nsd", ZONES)))
+        others.append(stack.enter_context(servers.nsd(scratch / "nsd", scratch / "zones")))
     for server in others:
         server.wait_for("example.com")
     return others
@@ -115,10 +120,18 @@ def _skips(arguments: argparse.Namespace) -> bool:
     return False
 
 
+def _stop(*_: object) -> NoReturn:
+    """Comes to an end: no command is run any more, and the servers end."""
+    Clock.end = 0
+    sys.exit(1)
+
+
 def main() -> int:
     """Runs the checks that the words ask for, and gives the status."""
     arguments = _arguments()
-    signal.signal(signal.SIGTERM, lambda *_: sys.exit(1))
+    Clock.end = time.monotonic() + arguments.seconds
+    for number in (signal.SIGTERM, signal.SIGINT, signal.SIGHUP):
+        signal.signal(number, _stop)
     if _skips(arguments):
         return 0
     if not os.access(arguments.program, os.X_OK):
@@ -127,7 +140,10 @@ def main() -> int:
     begun = time.monotonic()
     with ExitStack() as stack:
         scratch = Path(stack.enter_context(tempfile.TemporaryDirectory(prefix="spfc-admin-")))
-        main_server = stack.enter_context(servers.named(scratch / "named", ZONES))
+        if not servers.may_run_in(scratch):
+            print(f"test-admin: no program may run in {scratch}, as in a folder that TMPDIR names: no package is tried")
+        shutil.copytree(ZONES, scratch / "zones")
+        main_server = stack.enter_context(servers.named(scratch / "named", scratch / "zones"))
         bad = stack.enter_context(servers.misbehaving(scratch / "misbehaving"))
         main_server.wait_for("example.com")
         bad.wait_for("long.fake.test")

@@ -1,7 +1,9 @@
 """What the checks of the tools have in common: the tools, the program, the servers, and what is found wrong."""
 
 import os
+import signal
 import subprocess
+import time
 from collections.abc import Sequence
 from dataclasses import dataclass, field
 from pathlib import Path
@@ -10,8 +12,19 @@ from servers import HOST, Server
 
 TOP = Path(__file__).resolve().parents[2]
 ZONES = Path(__file__).with_name("zones")
-SECONDS = 120
+_SECONDS = 120
 """That a tool may take."""
+
+
+class Clock:
+    """How long all checks together may take yet. Behind that nothing is run, and each check comes to its end."""
+
+    end = float("inf")
+
+    @classmethod
+    def left(cls) -> float:
+        """The seconds that the next command may take."""
+        return min(_SECONDS, cls.end - time.monotonic())
 
 
 @dataclass(frozen=True)
@@ -59,20 +72,25 @@ class Scene:
 
 
 def run(command: Sequence[str], folder: Path, environment: dict[str, str]) -> Ended:
-    """Runs a command in a folder."""
+    """Runs a command in a folder. Where it takes too long, it ends with all that it started."""
+    if (seconds := Clock.left()) <= 0:
+        return Ended(-1, "", "no time is left")
+    process = subprocess.Popen(
+        command,
+        cwd=folder,
+        env={**os.environ, **environment},
+        stdin=subprocess.DEVNULL,
+        stdout=subprocess.PIPE,
+        stderr=subprocess.PIPE,
+        start_new_session=True,
+    )
     try:
-        ended = subprocess.run(
-            command,
-            cwd=folder,
-            env={**os.environ, **environment},
-            stdin=subprocess.DEVNULL,
-            capture_output=True,
-            timeout=SECONDS,
-            check=False,
-        )
+        output, line = process.communicate(timeout=seconds)
     except subprocess.TimeoutExpired:
-        return Ended(-1, "", f"no end within {SECONDS} seconds")
-    return Ended(ended.returncode, ended.stdout.decode("latin-1"), ended.stderr.decode("latin-1").rstrip("\n"))
+        os.killpg(process.pid, signal.SIGKILL)
+        process.communicate()
+        return Ended(-1, "", f"no end within {seconds:.0f} seconds")
+    return Ended(process.returncode, output.decode("latin-1"), line.decode("latin-1").rstrip("\n"))
 
 
 @dataclass

@@ -1,5 +1,6 @@
 """Name servers on 127.0.0.1, at free ports, each a process that is ended by its id."""
 
+import os
 import shutil
 import signal
 import socket
@@ -15,6 +16,8 @@ import dns.message
 import dns.query
 
 HOST = "127.0.0.1"
+CLOSED = ("closed.test",)
+"""Zones that no server gives away."""
 _SECONDS = 20
 _NAMED = """
 options {{
@@ -72,8 +75,9 @@ def free_port() -> int:
 class Server:
     """A running name server."""
 
-    def __init__(self, command: Sequence[str], port: int, log: Path) -> None:
+    def __init__(self, command: Sequence[str], port: int, log: Path, *, has_zones: bool = True) -> None:
         self.port = port
+        self.has_zones = has_zones
         self._log = log
         with log.open("wb") as file:
             self._process = subprocess.Popen(command, stdin=subprocess.DEVNULL, stdout=file, stderr=file)
@@ -113,8 +117,16 @@ class Server:
 
 def named(folder: Path, zones: Path) -> Server:
     """A server of the zones in a folder, whose files have the names of their origins."""
-    lines = [f'zone "{file.name}" {{ type primary; file "{file}"; }};\n' for file in sorted(zones.iterdir())]
+    lines = [
+        f'zone "{file.name}" {{ type primary; file "{file}"; allow-transfer {{ {_takers(file.name)}; }}; }};\n'
+        for file in sorted(zones.iterdir())
+    ]
     return _named(folder, _AUTHORITATIVE, "".join(lines))
+
+
+def _takers(zone: str) -> str:
+    """Whom the server gives a zone to."""
+    return "none" if zone in CLOSED else HOST
 
 
 def forwarding(folder: Path, upstream: Server) -> Server:
@@ -127,17 +139,22 @@ def _named(folder: Path, options: str, zones: str) -> Server:
     port = free_port()
     text = _NAMED.format(folder=folder, port=port, host=HOST, options=options) + zones
     (folder / "named.conf").write_text(text)
-    return Server([_tool("named"), "-f", "-n", "1", "-c", str(folder / "named.conf")], port, folder / "log")
+    command = [_runnable("named", folder), "-f", "-n", "1", "-c", str(folder / "named.conf")]
+    return Server(command, port, folder / "log", has_zones=bool(zones))
 
 
 def nsd(folder: Path, zones: Path) -> Server:
     """The same zones by another server."""
     folder.mkdir()
     port = free_port()
-    lines = [f'zone:\n name: "{file.name}"\n zonefile: "{file.name}"\n' for file in sorted(zones.iterdir())]
+    lines = [
+        f'zone:\n name: "{file.name}"\n zonefile: "{file.name}"\n'
+        + ("" if file.name in CLOSED else f" provide-xfr: {HOST} NOKEY\n")
+        for file in sorted(zones.iterdir())
+    ]
     text = _NSD.format(host=HOST, port=port, folder=folder, zones=zones) + "".join(lines)
     (folder / "nsd.conf").write_text(text)
-    return Server([_tool("nsd"), "-d", "-c", str(folder / "nsd.conf")], port, folder / "log")
+    return Server([_runnable("nsd", folder), "-d", "-c", str(folder / "nsd.conf")], port, folder / "log")
 
 
 def misbehaving(folder: Path) -> Server:
@@ -148,8 +165,22 @@ def misbehaving(folder: Path) -> Server:
     return Server([sys.executable, str(program), str(port)], port, folder / "log")
 
 
+def _runnable(name: str, folder: Path) -> str:
+    """The program or, where the system lets it read its own folders alone, a copy, which may read ours."""
+    enabled = Path("/sys/module/apparmor/parameters/enabled")
+    is_confined = Path(f"/etc/apparmor.d/usr.sbin.{name}").exists() and enabled.exists() and may_run_in(folder)
+    if not is_confined or enabled.read_text().strip() != "Y":
+        return _tool(name)
+    return str(shutil.copy(_tool(name), folder / name))
+
+
 def _tool(name: str) -> str:
     return shutil.which(name) or shutil.which(name, path="/usr/sbin:/usr/local/sbin") or name
+
+
+def may_run_in(folder: Path) -> bool:
+    """Whether programs that stand in the folder may be run."""
+    return not os.statvfs(folder).f_flag & os.ST_NOEXEC
 
 
 def has_tool(name: str) -> bool:

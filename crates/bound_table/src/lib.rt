@@ -15,6 +15,7 @@ pub use laws::{
     checked_table_bounds, one_first_round, one_later_round, one_table, table_bounds,
     written_is_read,
 };
+pub use line::{behind, cut_at};
 pub use lines::{append_table, write_table};
 pub use rounds::check_table;
-pub use table::{LineRow, LineRows, Table, TableFault, read_table};
+pub use table::{LineRow, LineRows, Table, TableFault, cut_line, read_table};

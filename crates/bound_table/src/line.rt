@@ -40,8 +40,8 @@ pub(crate) fn split_before(text: &[u8], byte: u8) -> (&[u8], &[u8])
     text.split_at(place_of(text, byte))
 }
 
-/// What stands before the first of these bytes, and what stands behind it.
-fn cut_at(text: &[u8], byte: u8) -> Option<(&[u8], &[u8])>
+/// What stands before the first of these bytes, and what stands behind it; `None` exactly where there is no such byte.
+pub fn cut_at(text: &[u8], byte: u8) -> Option<(&[u8], &[u8])>
     ensures { MatchOption result ((front rest : List ℕ) → ¬ (text.now ≡ front ++ byte ∷ rest))
         (λ r. IsCut byte text.now r.0.now r.1.now) }
 {
@@ -50,8 +50,8 @@ fn cut_at(text: &[u8], byte: u8) -> Option<(&[u8], &[u8])>
     Some((front, behind))
 }
 
-/// What stands behind the word that the text begins with.
-fn behind<'a>(text: &'a [u8], word: &[u8]) -> Option<&'a [u8]>
+/// What stands behind the word that the text begins with; `None` exactly where it does not begin so.
+pub fn behind<'a>(text: &'a [u8], word: &[u8]) -> Option<&'a [u8]>
     ensures { MatchOption result ((rest : List ℕ) → ¬ (text.now ≡ word.now ++ rest))
         (λ rest. text.now ≡ word.now ++ rest.now) }
 {

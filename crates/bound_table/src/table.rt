@@ -82,8 +82,8 @@ fn is_table_line(line: &[u8]) -> bool
     line.starts_with(b"; row ".as_slice()) || line.starts_with(b"; fewest ".as_slice())
 }
 
-/// The first line, and the lines behind it.
-fn cut_line(lines: &[u8]) -> (&[u8], &[u8])
+/// The first line, and the lines behind it. Lines end at line feeds; a last one without a line feed is a line.
+pub fn cut_line(lines: &[u8]) -> (&[u8], &[u8])
     requires { 0 < length lines.now }
     ensures lines { lines_of lines.now ≡ result.0.now ∷ lines_of result.1.now }
     ensures shorter { length result.1.now < length lines.now }

@@ -2,6 +2,7 @@
 use Rattle.std.proofs.Common.{◌≡◌, ℕ, suc, ◌+◌, ◌≤◌, Bool, true, false, cond, IsTrue, List, [], ◌∷◌, ◌++◌, length, filter, refl, sym, ap, ap₂, subst, ◌∙◌, arith, append_assoc, Option, Some, None}
 use Rattle.std.specs.List.{AllByRecursion, concat}
 use Rattle.std.proofs.lemmas.List.Elements.{filter-append}
+use Rattle.addr_bits.specs.declared.address.Address.{Address}
 use Rattle.dns_name.proofs.Octets.{all_append}
 use Rattle.master_reader.specs.declared.record.Body.{Body}
 use Rattle.master_reader.specs.declared.record.Body.TheVariants.{A, Aaaa, Mx, Txt, Cname, Ns, Other}
@@ -124,9 +125,9 @@ text_clash r h = let s : Strings r.body h.0 = strings_of_text r.body h.0 h.1 in 
 
 -- ---- where they stand
 
-module _ (name : Labels) (label : List ℕ) (all : List Record) where
+module _ (a : Address) (name : Labels) (label : List ℕ) (all : List Record) where
   zones : Answering
-  zones = says (with_zone [] name all)
+  zones = says (with_zone [] name all) a
 
   zone : Zone
   zone = record { origin = name; records = distinct_records all }
@@ -134,11 +135,11 @@ module _ (name : Labels) (label : List ℕ) (all : List Record) where
   -- a record is found at its name
   stands_at : (k : ℕ) (front : List Record) (r : Record) (behind : List Record) (text : List ℕ) → all ≡ front ++ r ∷ behind → k + length (r ∷ behind) ≤ 11
       → AllByRecursion (IsBetween name label 0 k) front → HaveOwners name label k (r ∷ behind) → AllByRecursion HasText all
-      → text_of r.body ≡ Some text → is_spf_text text ≡ true → Holds (says (with_zone [] name all)) r.owner text
+      → text_of r.body ≡ Some text → is_spf_text text ≡ true → Holds (says (with_zone [] name all) a) r.owner text
   stands_at k front r behind text whole few before own texts is spf =
       let s : Strings r.body text = strings_of_text r.body text is in
       let same : r ≡ strings_record r.owner s.strings = ap (λ b. record { owner = r.owner; body = b }) s.is_txt in
-      subst (Holds (says (with_zone [] name all)) r.owner) s.joined
+      subst (Holds (says (with_zone [] name all) a) r.owner) s.joined
       (holds_strings (with_zone [] name all) (record { origin = name; records = distinct_records all }) r.owner s.strings [] all
       (ap (zone_of (with_zone [] name all)) own.0 ∙ lone_owner name label k all)
       (record {
@@ -148,20 +149,20 @@ module _ (name : Labels) (label : List ℕ) (all : List Record) where
         new_uncut = all_weaker HasText (λ x. cuts name r.owner x ≡ false) all (λ x h. text_uncut name r.owner x h) texts;
         plain = tt;
         spf = ap is_spf_text s.joined ∙ spf;
-      }))
+      }) a)
 
   -- its terms and its redirect stand there
   flat_at : (k : ℕ) (front : List Record) (r : Record) (behind : List Record) (terms : List FlatTerm) (redirect : Option (List Piece)) → HasTwoLabels name → all ≡ front ++ r ∷ behind
       → k + length (r ∷ behind) ≤ 11 → AllByRecursion (IsBetween name label 0 k) front → HaveOwners name label k (r ∷ behind) → AllByRecursion HasText all
-      → IsFlat r.body terms redirect → StandsAt (says (with_zone [] name all)) r.owner terms redirect
+      → IsFlat r.body terms redirect → StandsAt (says (with_zone [] name all) a) r.owner terms redirect
   flat_at k front r behind terms redirect two whole few before own texts flat =
-      stands (says (with_zone [] name all)) r.owner flat.text terms redirect (subst HasTwoLabels (sym own.0) (owner_has_two name label k two))
+      stands (says (with_zone [] name all) a) r.owner flat.text terms redirect (subst HasTwoLabels (sym own.0) (owner_has_two name label k two))
       (stands_at k front r behind flat.text whole few before own texts flat.is_text (version_told flat.text _ flat.spells)) flat.spells
 
   -- the records from record k on are a chain, at whatever domain its text is
   chain_from : (domain : List ℕ) (k : ℕ) (front : List Record) (r : Record) (behind : List Record) (lists : List (List FlatTerm)) → HasTwoLabels name → all ≡ front ++ r ∷ behind
       → k + length (r ∷ behind) ≤ 11 → AllByRecursion (IsBetween name label 0 k) front → HaveOwners name label k (r ∷ behind) → AllByRecursion HasText all
-      → AreLinked (r ∷ behind) lists → IsChain (says (with_zone [] name all)) domain r.owner lists
+      → AreLinked (r ∷ behind) lists → IsChain (says (with_zone [] name all) a) domain r.owner lists
   chain_from domain k front r [] [] two whole few before own texts linked = absurd linked
   chain_from domain k front r [] (terms ∷ []) two whole few before own texts linked = flat_at k front r [] terms None two whole few before own texts linked.flat
   chain_from domain k front r [] (terms ∷ more ∷ lists) two whole few before own texts linked = absurd linked
@@ -196,8 +197,8 @@ gives_alone domain label [] lists is form = absurd form.linked
 gives_alone domain label (r ∷ records) lists is form =
     chain_gives (says (with_zone [] (name_at domain) (r ∷ records))) domain (name_at domain) (all_terms lists) lists (length (r ∷ records))
     (unfolded domain (name_at domain) (named_at domain is))
-    (subst (λ n. IsChain (says (with_zone [] (name_at domain) (r ∷ records))) domain n lists) form.owners.0
-    (chain_from (name_at domain) label (r ∷ records) domain 0 [] r records lists (has_two domain is) refl (omega (arith, form.few)) tt form.owners
+    (λ a. subst (λ n. IsChain (says (with_zone [] (name_at domain) (r ∷ records)) a) domain n lists) form.owners.0
+    (chain_from a (name_at domain) label (r ∷ records) domain 0 [] r records lists (has_two domain is) refl (omega (arith, form.few)) tt form.owners
     (linked_texts (r ∷ records) lists form.linked) form.linked))
     (lists_many (r ∷ records) lists form.linked) form.few refl
 

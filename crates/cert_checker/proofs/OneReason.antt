@@ -10,7 +10,7 @@ use Rattle.zone_answers.specs.Zone.{Zone}
 use Rattle.spf_grammar.specs.Flat.{first}
 use Rattle.spf_grammar.specs.declared.flat.FlatTerm.{FlatTerm}
 use Rattle.spf_model.specs.Chains.{all_terms}
-use Rattle.spf_model.specs.Run.{Answering, says}
+use Rattle.spf_model.specs.Run.{AnsweringEach, says}
 use Rattle.spf_model.specs.Result.{Gives}
 use Rattle.spf_model.specs.declared.outcome.Limits.{Limits}
 use Rattle.spf_model.specs.declared.outcome.Outcome.{Outcome}
@@ -79,11 +79,11 @@ one_terms domain bytes c d =
 
 -- ---- one address
 
-other_before : (zones : Answering) (limits : Limits) (domain : List ℕ) (list : List FlatTerm) (a b : Address) → IsLeastOther zones limits domain list a → IsLeastOther zones limits domain list b
+other_before : (zones : AnsweringEach) (limits : Limits) (domain : List ℕ) (list : List FlatTerm) (a b : Address) → IsLeastOther zones limits domain list a → IsLeastOther zones limits domain list b
     → StandsBefore a b → ⊥
 other_before zones limits domain list a b x y before = x.other (one_verdict zones limits domain a (first list a) x.verdict (y.least a x.one before) x.given)
 
-one_other : (zones : Answering) (limits : Limits) (domain : List ℕ) (list : List FlatTerm) (a b : Address) → IsLeastOther zones limits domain list a → IsLeastOther zones limits domain list b → a ≡ b
+one_other : (zones : AnsweringEach) (limits : Limits) (domain : List ℕ) (list : List FlatTerm) (a b : Address) → IsLeastOther zones limits domain list a → IsLeastOther zones limits domain list b → a ≡ b
 one_other zones limits domain list a b x y = one_place a b (other_before zones limits domain list a b x y) (other_before zones limits domain list b a y x)
 
 module _ (zones : List Zone) (limits : Limits) (domain : List ℕ) (size : ℕ) (bytes : List ℕ) where

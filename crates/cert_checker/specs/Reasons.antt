@@ -14,7 +14,7 @@ use Rattle.spf_grammar.specs.declared.verdict.Verdict.{Verdict}
 use Rattle.spf_grammar.specs.declared.verdict.Verdict.TheVariants.{Neutral}
 use Rattle.spf_model.specs.Result as model
 use Rattle.spf_model.specs.Result.{AllHave}
-use Rattle.spf_model.specs.Run.{Answering, says}
+use Rattle.spf_model.specs.Run.{AnsweringEach, says}
 use Rattle.spf_model.specs.declared.outcome.Limits.{Limits}
 use Rattle.spf_model.specs.declared.outcome.Outcome.TheVariants.{Is}
 use Rattle.policy_verdicts.specs.Policy.{IsLeastRefused, StandsBefore}
@@ -32,7 +32,7 @@ abbrev pub AllDecided : List Zone → Limits → (domain : List ℕ) → Type 0
 AllDecided zones limits domain = (verdict_of : Address → Verdict) × AllHave (says zones) limits domain verdict_of
 
 -- project's own choice of the address that is named: the least one to which the list gives another verdict
-pub record IsLeastOther (zones : Answering) (limits : Limits) (domain : List ℕ) (list : List FlatTerm)
+pub record IsLeastOther (zones : AnsweringEach) (limits : Limits) (domain : List ℕ) (list : List FlatTerm)
     (address : Address) : Type 0 where
   pub verdict : Verdict
   pub one : IsAddress address

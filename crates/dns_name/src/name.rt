@@ -90,6 +90,7 @@ impl Clone for Name {
 impl Name {
     ghost use Rattle.dns_name.specs.Name.{IsName, IsUnder, is_under, child_of, name_of_text, name_of_labels, first_fault, is_dot, first_label_of, parent_of};
     ghost use Rattle.dns_name.specs.Printed.{printed_name, IsPrinted};
+    ghost use Rattle.dns_name.specs.Wire.{wire_form};
     ghost use Rattle.std.specs.List.{slice_split};
 
     /// The root, which is one octet on the wire.
@@ -191,6 +192,13 @@ impl Name {
             rest = behind;
         }
         count
+    }
+
+    /// How many octets the name has on the wire, from 1 for the root to 255 (RFC 1035, section 3.1).
+    pub fn wire_len(&self) -> usize
+        ensures { result ≡ length (wire_form self.now) }
+    {
+        self.wire.len()
     }
 
     /// Whether the name stands at or below the other (RFC 1034, section 3.1).

@@ -6,7 +6,7 @@ use Rattle.zone_answers.specs.Questions.{question_text}
 use Rattle.zone_answers.specs.Zone.{Zone}
 use Rattle.zone_answers.specs.declared.answer.Question.{Question}
 use Rattle.spf_model.specs.Result.{AreModest}
-use Rattle.spf_model.specs.Run.{Answering, says}
+use Rattle.spf_model.specs.Run.{AnsweringEach, AnswerAlike, says}
 use Rattle.spf_model.specs.declared.outcome.Limits.{Limits}
 use Rattle.spf_model.specs.declared.outcome.Outcome.{Outcome}
 use Rattle.symbolic_check.specs.Evaluation.{IsEvaluation}
@@ -38,8 +38,8 @@ pub record AreDeps (job : Deps) (loaded : Loaded) (output : Output) : Type 0 whe
 -- every address has the same outcome, and the same questions are asked
 pub record IsBest (job : Deps) (loaded : Loaded) (output : Output) : Type 0 where
   pub are : AreDeps job loaded output
-  pub rests : (others : Answering)
-      → ((question : Question) → Contains are.lines.asked question → others question ≡ says loaded.zones question)
+  pub rests : (others : AnsweringEach)
+      → ((question : Question) → Contains are.lines.asked question → AnswerAlike others (says loaded.zones) question)
       → IsEvaluation others job.limits job.domain.text are.lines.v4 are.lines.v6 are.lines.asked
 
 -- the output is due

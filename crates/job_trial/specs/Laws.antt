@@ -1,5 +1,5 @@
 -- The laws of the job.
-use Rattle.std.specs.Prelude.{◌≡◌, ℕ, List, [], ◌∷◌, Ok, Err}
+use Rattle.std.specs.Prelude.{◌≡◌, ℕ, List, [], ◌∷◌}
 use Rattle.std.proofs.Common.{sym, ap, lit≤, ◌∙◌}
 use Rattle.spfc_words.proofs.Settings.{one_number}
 use Rattle.loading.specs.declared.loaded.Loaded.{Loaded}
@@ -7,7 +7,7 @@ use Rattle.loading.specs.declared.refusal.Refusal.{Refusal}
 use Rattle.jobs.specs.Meaning.{Due, Refuses, Gives, IsLawful}
 use Rattle.jobs.specs.declared.output.Output.{Output}
 use Rattle.policy_trial.proofs.OneTrial.{one_trial}
-use Rattle.job_trial.specs.Meaning.{IsReady, IsTrialLine, TrialJobDue, due_of, output_of, meaning_of_trial}
+use Rattle.job_trial.specs.Meaning.{IsReady, IsTrialLine, NeverRefused, TrialJobDue, output_of, meaning_of_trial}
 use Rattle.job_trial.specs.Words.{SpellsTrial}
 use Rattle.job_trial.specs.declared.trial.Trial.{Trial}
 
@@ -32,10 +32,10 @@ one_trial_spelled (start ∷ networks ∷ []) a b x y =
 
 one_due : (job : Trial) (loaded : Loaded) (x y : Due) → TrialJobDue job loaded x → TrialJobDue job loaded y
     → x ≡ y
-one_due job loaded x y (found, due, is) (found', due', is') =
-    is ∙ (ap (due_of job) (one_trial job.start job.networks found found' due due') ∙ sym is')
+one_due job loaded x y (summary, due, is) (summary', due', is') =
+    is ∙ (ap (λ found. Gives (output_of job found)) (one_trial job.start job.networks summary summary' due due') ∙ sym is')
 
-gives_refuses : {output : Output} {why : Refusal} → Gives output ≡ Refuses why → ⊥
+gives_refuses : {output : Output} {why : Refusal} → Refuses why ≡ Gives output → ⊥
 gives_refuses e = cc
 
 gives_once : {a b : Output} → Gives a ≡ Gives b → a ≡ b
@@ -43,8 +43,10 @@ gives_once e = cc
 
 best_due : (job : Trial) (loaded : Loaded) (output : Output) → TrialJobDue job loaded (Gives output)
     → IsTrialLine job loaded output
-best_due job loaded output (Err why, due, is) = absurd (gives_refuses is)
-best_due job loaded output (Ok summary, due, is) = (summary, due, gives_once is)
+best_due job loaded output (summary, due, is) = (summary, due, gives_once is)
+
+pub never_refused : NeverRefused
+never_refused job loaded why (summary, due, is) = gives_refuses is
 
 pub trial_lawful : (job : Trial) → IsLawful (meaning_of_trial job)
 trial_lawful job = record { one = one_due job; best = λ ready. best_due job }

@@ -6,7 +6,7 @@ use Rattle.spfc_outer.specs.Seen.{FilesSeen}
 use Rattle.loading.specs.declared.loaded.Loaded.{Loaded}
 use Rattle.loading.specs.declared.refusal.Refusal.{Refusal}
 use Rattle.loading.specs.declared.refusal.Refusal.TheVariants.{NoFile, LongFile, BadZone, TooManyRecords, AliasAndOther}
-use Rattle.loading.specs.declared.refusal.Refusal.TheVariants.{NoVerdict, Alias, Taken, TooBig, Denied}
+use Rattle.loading.specs.declared.refusal.Refusal.TheVariants.{NoVerdict, Alias, Taken, TooBig, BadList, Denied}
 use Rattle.loading.specs.Refusals.{refusal_status}
 use Rattle.loading.proofs.OneLoading.{one_loading}
 use Rattle.jobs.specs.Meaning.{Due, Refuses, Gives, Meaning, Program, AreLawful, IsLawful}
@@ -27,6 +27,7 @@ finding_status (NoVerdict address outcome) = inl refl
 finding_status (Alias domain) = inl refl
 finding_status (Taken number name) = inl refl
 finding_status TooBig = inr (inl refl)
+finding_status (BadList file line) = inr (inr (inl refl))
 finding_status (Denied why) = inr (inr (inr refl))
 
 -- the status is none of 0, 4, 5, 6 and 7, and at most 8

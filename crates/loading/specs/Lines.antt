@@ -52,6 +52,10 @@ fault_text line kind = spaced (decimal line) (kind_word kind)
 abbrev pub bad_zone_line : (file : List ℕ) → (line : ℕ) → Kind → List ℕ
 bad_zone_line file line kind = line_of (codes "bad zone ") (spaced file (fault_text line kind))
 
+-- the first line of a file that is not as a kept list has it
+abbrev pub bad_list_line : (file : List ℕ) → (line : ℕ) → List ℕ
+bad_list_line file line = line_of (codes "bad list ") (spaced file (decimal line))
+
 abbrev pub too_many_line : (origin : List (List ℕ)) → List ℕ
 too_many_line origin = line_of (codes "too many records ") (printed_name origin)
 

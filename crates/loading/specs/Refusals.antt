@@ -1,16 +1,17 @@
 -- The statuses and the lines of refusals, for all jobs: the project's own choice.
 use Rattle.std.specs.Prelude.{ℕ, List}
 use Rattle.loading.specs.Lines.{no_file_line, long_file_line, bad_zone_line, too_many_line, alias_and_other_line}
-use Rattle.loading.specs.Lines.{no_verdict_line, alias_line, taken_line, too_big_line}
+use Rattle.loading.specs.Lines.{no_verdict_line, alias_line, taken_line, too_big_line, bad_list_line}
 use Rattle.loading.specs.Lines.{no_zone_line, no_chain_line, other_verdict_line, no_table_line, no_terms_line}
 use Rattle.loading.specs.Lines.{no_records_line}
 use Rattle.loading.specs.declared.refusal.Denial.{Denial}
 use Rattle.loading.specs.declared.refusal.Denial.TheVariants as denial
 use Rattle.loading.specs.declared.refusal.Refusal.{Refusal}
 use Rattle.loading.specs.declared.refusal.Refusal.TheVariants.{NoFile, LongFile, BadZone, TooManyRecords, AliasAndOther}
-use Rattle.loading.specs.declared.refusal.Refusal.TheVariants.{NoVerdict, Alias, Taken, TooBig, Denied}
+use Rattle.loading.specs.declared.refusal.Refusal.TheVariants.{NoVerdict, Alias, Taken, TooBig, BadList, Denied}
 
--- 1: what was asked is refused; 2: it is too big; 3: the zones cannot be read; 8: the file does not show what it should
+-- 1: what was asked is refused; 2: it is too big; 3: the zones or the list cannot be read; 8: the file does not show what
+-- it should
 abbrev pub refusal_status : Refusal → ℕ
 refusal_status (NoFile file) = 3
 refusal_status (LongFile file) = 3
@@ -21,6 +22,7 @@ refusal_status (NoVerdict address outcome) = 1
 refusal_status (Alias domain) = 1
 refusal_status (Taken number name) = 1
 refusal_status TooBig = 2
+refusal_status (BadList file line) = 3
 refusal_status (Denied why) = 8
 
 -- the line of a file that does not show what it should
@@ -43,4 +45,5 @@ refusal_line (NoVerdict address outcome) = no_verdict_line address outcome
 refusal_line (Alias domain) = alias_line domain
 refusal_line (Taken number name) = taken_line number name
 refusal_line TooBig = too_big_line
+refusal_line (BadList file line) = bad_list_line file line
 refusal_line (Denied why) = denial_line why

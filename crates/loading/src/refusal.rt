@@ -3,7 +3,8 @@ ghost use Rattle.std.specs.Prelude.{◌≡◌, IfOk};
 ghost use Rattle.loading.specs.Refusals.{refusal_status, refusal_line, denial_line};
 
 use crate::text::{
-    alias_and_other, bad_zone, line, no_table, no_verdict, no_zone, other_verdict, taken, too_many,
+    alias_and_other, bad_list, bad_zone, line, no_table, no_verdict, no_zone, other_verdict, taken,
+    too_many,
 };
 use addr_bits::{Address, Bytes};
 use dns_name::Name;
@@ -33,6 +34,8 @@ pub enum Refusal {
     Taken { number: u64, name: Bytes },
     /// The list fits into no records.
     TooBig,
+    /// The file is no kept list: this line, counted from 1, is the first that is not as such a list has it.
+    BadList { file: Bytes, line: u64 },
     /// The file does not show that its records are right and fewest.
     Denied(Denial),
 }
@@ -68,7 +71,8 @@ impl Refusal {
             | Refusal::LongFile { .. }
             | Refusal::BadZone { .. }
             | Refusal::TooManyRecords { .. }
-            | Refusal::AliasAndOther { .. } => 3,
+            | Refusal::AliasAndOther { .. }
+            | Refusal::BadList { .. } => 3,
             Refusal::Denied(_) => 8,
         }
     }
@@ -91,6 +95,7 @@ impl Refusal {
             Refusal::Alias { domain } => line(alloc, "refused alias ", domain.as_slice()),
             Refusal::Taken { number, name } => taken(alloc, *number, name.as_slice()),
             Refusal::TooBig => line(alloc, "too big", b""),
+            Refusal::BadList { file, line: number } => bad_list(alloc, file.as_slice(), *number),
             Refusal::Denied(denial) => denial.line(alloc),
         }
     }

@@ -1,7 +1,8 @@
 //! Lines that are printed.
 ghost use Rattle.std.specs.Prelude.{◌≡◌, ◌++◌, ◌∷◌, IfOk, OnOk};
 ghost use Rattle.loading.specs.Lines.{line_of, kind_word, fault_text, address_text};
-ghost use Rattle.loading.specs.Lines.{bad_zone_line, too_many_line, alias_and_other_line, no_verdict_line, taken_line};
+ghost use Rattle.loading.specs.Lines.{bad_zone_line, bad_list_line, too_many_line, alias_and_other_line};
+ghost use Rattle.loading.specs.Lines.{no_verdict_line, taken_line};
 ghost use Rattle.loading.specs.Lines.{no_zone_line, other_verdict_line, no_table_line};
 
 use addr_bits::{Address, Bytes, write_ip4, write_ip6};
@@ -75,6 +76,16 @@ pub(crate) fn bad_zone(
     tail.push(b' ')?;
     push_fault(&mut tail, number, kind)?;
     line(alloc, "bad zone ", tail.as_slice())
+}
+
+/// The line of a file that is no kept list.
+pub(crate) fn bad_list(alloc: Global, file: &[u8], number: u64) -> Result<Bytes, AllocError>
+    ensures { IfOk result (λ bytes. bytes ≡ bad_list_line file.now number) }
+{
+    let mut tail = Bytes::new(alloc);
+    tail.extend_from_slice(file)?;
+    push_part(&mut tail, Buffer::new().format(number).as_bytes())?;
+    line(alloc, "bad list ", tail.as_slice())
 }
 
 /// The line of a zone with which the records are too many.

@@ -1,7 +1,6 @@
 -- How many rows a table of needs has.
-use Rattle.std.proofs.Common.{ℕ, ◌≡◌, ◌+◌, List, length, map, sym, ap, ap₂, ◌∙◌}
+use Rattle.std.proofs.Common.{ℕ, ◌≡◌, ◌+◌, List, length, sym, ap, ap₂, ◌∙◌}
 use Rattle.std.proofs.lemmas.List.{length-map}
-use Rattle.addr_bits.specs.Prefix.{Cidr}
 use Rattle.spf_grammar.specs.declared.verdict.Verdict.{Verdict}
 use Rattle.fewest_terms.specs.Needs.{mixed_count}
 use Rattle.fewest_terms.specs.Row.{NeedRow}

@@ -1,16 +1,14 @@
 //! The zone that a number makes, lent.
-ghost use Rattle.std.specs.Prelude.{◌≡◌, ◌≤◌, Ok, Err, IfOk, IfErr};
-ghost use Rattle.zone_answers.specs.Lend.{AreLendable};
-ghost use Rattle.loading.specs.Loading.{ReadingDue};
-ghost use Rattle.loading.specs.Memory.{ErrorIs};
-ghost use Rattle.policy_trial.specs.Trial.{ZoneDue, trial_name, trial_text};
+ghost use Rattle.std.specs.Prelude.{◌≡◌, ◌≤◌, [], IfOk};
+ghost use Rattle.master_reader.specs.Reading.{Reads};
+ghost use Rattle.zone_answers.specs.Lend.{AreLendable, IsLent, with_zone};
+ghost use Rattle.policy_trial.specs.Trial.{HasReading, IsTrialZone, trial_name};
 
 use dns_name::Name;
-use loading::{OrMemory, Refusal, copied, lend};
 use master_reader::{Records, ZoneFault, read_zone};
 use spf_gen::generate;
-use std::alloc::Global;
-use zone_answers::Zones;
+use std::alloc::{AllocError, Global};
+use zone_answers::{LendFault, Zones};
 
 /// The domain of a trial, which is the origin of its zone.
 pub(crate) const DOMAIN: &[u8] = b"trial.example";
@@ -22,37 +20,41 @@ fn origin() -> Name
     Name::from_text(DOMAIN).unwrap()
 }
 
-/// The records of the zone (RFC 1035, section 5).
-fn read_records(alloc: Global, origin: &Name, bytes: &[u8]) -> Result<Records, OrMemory<Refusal>>
-    ensures read { IfOk result (λ records. ReadingDue origin.now trial_text bytes.now (Ok records)) }
-    ensures lendable { IfOk result (AreLendable origin.now) }
-    ensures refused { IfErr result (ErrorIs (λ why. ReadingDue origin.now trial_text bytes.now (Err why))) }
+/// The records of a master file that has a reading (RFC 1035, section 5).
+fn read_records(alloc: Global, origin: &Name, bytes: &[u8]) -> Result<Records, AllocError>
+    requires { HasReading origin.now bytes.now }
+    ensures { IfOk result (Reads origin.now bytes.now) }
 {
     match read_zone(alloc, origin, bytes) {
         Ok(records) => Ok(records),
-        Err(ZoneFault::Bad { line, kind }) => {
-            let file = copied(alloc, DOMAIN)?;
-            Err(OrMemory::Error(Refusal::BadZone { file, line, kind }))
-        }
-        Err(ZoneFault::Memory) => Err(OrMemory::Memory),
+        Err(ZoneFault::Bad { .. }) => unreachable!(),
+        Err(ZoneFault::Memory) => Err(AllocError),
+    }
+}
+
+/// Records that may be lent alone, lent.
+fn lend_alone(alloc: Global, origin: Name, records: Records) -> Result<Zones, AllocError>
+    requires lendable { AreLendable origin records }
+    requires lent { IsLent [] origin records }
+    ensures { IfOk result (λ zones. zones ≡ with_zone [] origin records) }
+{
+    let mut zones = Zones::new(alloc);
+    match zones.lend(origin, records) {
+        Ok(()) => Ok(zones),
+        Err(LendFault::Memory) => Err(AllocError),
+        Err(LendFault::SameOrigin | LendFault::TooMany { .. } | LendFault::AliasAndOther { .. }) =>
+            unreachable!(),
     }
 }
 
 /// The zone with so many networks that the number makes, lent.
-pub(crate) fn lend_generated(
-    alloc: Global,
-    start: u64,
-    networks: u32,
-) -> Result<Zones, OrMemory<Refusal>>
+pub(crate) fn lend_generated(alloc: Global, start: u64, networks: u32) -> Result<Zones, AllocError>
     requires some { 1 ≤ networks }
     requires few { networks ≤ 10000 }
-    ensures lent { IfOk result (λ zones. ZoneDue start networks (Ok zones)) }
-    ensures refused { IfErr result (ErrorIs (λ why. ZoneDue start networks (Err why))) }
+    ensures { IfOk result (IsTrialZone start networks) }
 {
     let bytes = generate(alloc, start, networks)?;
     let origin = origin();
     let records = read_records(alloc, &origin, bytes.as_slice())?;
-    let mut zones = Zones::new(alloc);
-    lend(&mut zones, &origin, records)?;
-    Ok(zones)
+    lend_alone(alloc, origin, records)
 }

@@ -6,6 +6,6 @@ mod laws;
 mod summary;
 mod trial;
 
-pub use laws::one_trial;
+pub use laws::{one_trial, trials_have_verdicts};
 pub use summary::Summary;
 pub use trial::run_trial;

@@ -9,7 +9,7 @@ use Rattle.spf_grammar.specs.declared.verdict.Verdict.{Verdict}
 use Rattle.spf_model.specs.declared.outcome.Limits.{Limits}
 use Rattle.spf_model.specs.declared.outcome.Outcome.{Outcome}
 use Rattle.spf_model.specs.declared.outcome.Outcome.TheVariants.{Is, Nothing, Perm, Temp, Unsettled}
-use Rattle.spf_model.specs.Run.{Answering}
+use Rattle.spf_model.specs.Run.{AnsweringEach}
 use Rattle.spf_model.specs.Result.{Gives, AllHave}
 use Rattle.zone_answers.specs.declared.answer.Question.{Question}
 use Rattle.zone_answers.specs.Zone.{Zone}
@@ -42,24 +42,24 @@ kept_here : (found : Option Outcome) (kept : Option Verdict) (P : Outcome → Ty
 kept_here found kept P (v, is, has) p = subst (λ (k : Option Verdict). P (Is (or_neutral k))) (sym has) (here found (Is v) P is p)
 
 -- ---- all addresses
-pub kept_of : (zones : Answering) (limits : Limits) (domain : List ℕ) (four six : List (Cidr × Outcome)) (asked : List Question) (v4 v6 : List (Cidr × Verdict)) → IsEvaluation zones limits domain four six asked →
+pub kept_of : (zones : AnsweringEach) (limits : Limits) (domain : List ℕ) (four six : List (Cidr × Outcome)) (asked : List Question) (v4 v6 : List (Cidr × Verdict)) → IsEvaluation zones limits domain four six asked →
     ((a : ℕ) → a < 2 ^ 32 → IsVerdictOf (value_at 32 four a) (value_at 32 v4 a)) → ((a : ℕ) → a < 2 ^ 128 → IsVerdictOf (value_at 128 six a) (value_at 128 v6 a)) →
     AllHave zones limits domain (verdict_at (trie_verdict 32 v4) (trie_verdict 128 v6))
 kept_of zones limits domain four six asked v4 v6 is are4 are6 (V4 a) lt = kept_here (value_at 32 four a) (value_at 32 v4 a) (Gives zones limits domain (V4 a)) (are4 a lt) (is.v4 a lt)
 kept_of zones limits domain four six asked v4 v6 is are4 are6 (V6 a) lt = kept_here (value_at 128 six a) (value_at 128 v6 a) (Gives zones limits domain (V6 a)) (are6 a lt) (is.v6 a lt)
 
 -- ---- the least that is refused
-before_four : (zones : Answering) (limits : Limits) (domain : List ℕ) (four six : List (Cidr × Outcome)) (asked : List Question) (a : ℕ) → IsEvaluation zones limits domain four six asked →
+before_four : (zones : AnsweringEach) (limits : Limits) (domain : List ℕ) (four six : List (Cidr × Outcome)) (asked : List Question) (a : ℕ) → IsEvaluation zones limits domain four six asked →
     ((b : ℕ) → b < a → HasVerdict 32 four b) → (other : Address) → IsAddress other → StandsBefore other (V4 a) → (v : Verdict) × Gives zones limits domain other (Is v)
 before_four zones limits domain four six asked a is least (V4 b) lt before = has_one (value_at 32 four b) (Gives zones limits domain (V4 b)) (least b before) (is.v4 b lt)
 before_four zones limits domain four six asked a is least (V6 b) lt before = absurd before
 
-before_six : (zones : Answering) (limits : Limits) (domain : List ℕ) (four six : List (Cidr × Outcome)) (asked : List Question) (a : ℕ) → IsEvaluation zones limits domain four six asked →
+before_six : (zones : AnsweringEach) (limits : Limits) (domain : List ℕ) (four six : List (Cidr × Outcome)) (asked : List Question) (a : ℕ) → IsEvaluation zones limits domain four six asked →
     HaveVerdicts 32 four → ((b : ℕ) → b < a → HasVerdict 128 six b) → (other : Address) → IsAddress other → StandsBefore other (V6 a) → (v : Verdict) × Gives zones limits domain other (Is v)
 before_six zones limits domain four six asked a is all least (V4 b) lt before = has_one (value_at 32 four b) (Gives zones limits domain (V4 b)) (all b lt) (is.v4 b lt)
 before_six zones limits domain four six asked a is all least (V6 b) lt before = has_one (value_at 128 six b) (Gives zones limits domain (V6 b)) (least b before) (is.v6 b lt)
 
-refused_of : (zones : Answering) (limits : Limits) (domain : List ℕ) (four six : List (Cidr × Outcome)) (asked : List Question) (address : Address) (outcome : Outcome) → IsEvaluation zones limits domain four six asked →
+refused_of : (zones : AnsweringEach) (limits : Limits) (domain : List ℕ) (four six : List (Cidr × Outcome)) (asked : List Question) (address : Address) (outcome : Outcome) → IsEvaluation zones limits domain four six asked →
     IsRefused four six address outcome → IsLeastRefused zones limits domain address outcome
 refused_of zones limits domain four six asked (V4 a) outcome is r = record {
   one = r.within;

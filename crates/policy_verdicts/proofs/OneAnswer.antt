@@ -6,7 +6,7 @@ use Rattle.spf_grammar.specs.declared.verdict.Verdict.{Verdict}
 use Rattle.spf_model.specs.declared.outcome.Limits.{Limits}
 use Rattle.spf_model.specs.declared.outcome.Outcome.{Outcome}
 use Rattle.spf_model.specs.declared.outcome.Outcome.TheVariants.{Is}
-use Rattle.spf_model.specs.Run.{Answering}
+use Rattle.spf_model.specs.Run.{AnsweringEach}
 use Rattle.spf_model.specs.Result.{Gives}
 use Rattle.spf_model.proofs.OneOutcome.{one_outcome, one_verdict as one_verdict_of}
 use Rattle.verdict_map.specs.Verdicts.{has_verdict}
@@ -15,10 +15,10 @@ use Rattle.policy_verdicts.specs.Policy.{StandsBefore, IsLeastRefused}
 
 -- ---- one address is the least that is refused
 -- an address has a verdict or none
-not_both_ways : (zones : Answering) (limits : Limits) (domain : List ℕ) (a : Address) (o : Outcome) (v : Verdict) → Gives zones limits domain a o → has_verdict o ≡ false → Gives zones limits domain a (Is v) → ⊥
+not_both_ways : (zones : AnsweringEach) (limits : Limits) (domain : List ℕ) (a : Address) (o : Outcome) (v : Verdict) → Gives zones limits domain a o → has_verdict o ≡ false → Gives zones limits domain a (Is v) → ⊥
 not_both_ways zones limits domain a o v x none y = true≢false (sym (ap has_verdict (one_outcome zones limits domain a o (Is v) x y)) ∙ none)
 
-not_before : (zones : Answering) (limits : Limits) (domain : List ℕ) (a b : Address) (o p : Outcome) → IsLeastRefused zones limits domain a o → IsLeastRefused zones limits domain b p → StandsBefore a b → ⊥
+not_before : (zones : AnsweringEach) (limits : Limits) (domain : List ℕ) (a b : Address) (o p : Outcome) → IsLeastRefused zones limits domain a o → IsLeastRefused zones limits domain b p → StandsBefore a b → ⊥
 not_before zones limits domain a b o p x y before =
     let has = y.least a x.one before in
     not_both_ways zones limits domain a o has.0 x.given x.no_verdict has.1

@@ -8,7 +8,7 @@ use Rattle.zone_answers.specs.Zone.{Zone}
 use Rattle.spf_grammar.specs.declared.verdict.Verdict.{Verdict}
 use Rattle.spf_model.specs.Result as model
 use Rattle.spf_model.specs.Result.{AllHave}
-use Rattle.spf_model.specs.Run.{Answering, says}
+use Rattle.spf_model.specs.Run.{AnsweringEach, says}
 use Rattle.spf_model.specs.declared.outcome.Limits.{Limits}
 use Rattle.spf_model.specs.declared.outcome.Outcome.{Outcome}
 use Rattle.spf_model.specs.declared.outcome.Outcome.TheVariants.{Is}
@@ -36,7 +36,7 @@ StandsBefore (V6 a) (V6 b) = a < b
 
 -- RFC 7208, section 4: check_host gives the address this outcome, which is no verdict, and each address before it a
 -- verdict
-pub record IsLeastRefused (zones : Answering) (limits : Limits) (domain : List ℕ) (address : Address)
+pub record IsLeastRefused (zones : AnsweringEach) (limits : Limits) (domain : List ℕ) (address : Address)
     (outcome : Outcome) : Type 0 where
   pub one : IsAddress address
   pub given : model.Gives zones limits domain address outcome

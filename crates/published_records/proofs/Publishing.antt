@@ -20,7 +20,7 @@ use Rattle.spf_model.specs.Chains.{all_terms, IsChain, GivesFlat}
 use Rattle.spf_model.specs.Check.{check_host, receiver_limits, with_answer, with_record}
 use Rattle.spf_model.specs.Judging.{Labels, name_of}
 use Rattle.spf_model.specs.Result.{AllHave, Gives}
-use Rattle.spf_model.specs.Run.{Answering, EndsWith, Run, says}
+use Rattle.spf_model.specs.Run.{Answering, AnsweringEach, EndsWith, Run, says}
 use Rattle.spf_model.proofs.Chains.{chains_give_first}
 use Rattle.spf_model.proofs.OneOutcome.{some_once}
 use Rattle.record_pack.specs.Records.{RiseTo, piece, pieces_from}
@@ -50,18 +50,18 @@ held_in asked zones name counts after go verdict follow (Some zone) is ends = by
     by true cut ends = absurd (found_record asked name counts after go verdict ends)
     by false uncut ends = record { zone = zone; holds = is; no_cut = uncut }
 
-held_name : (zones : List Zone) (name : Labels) (counts after : Counts) (go : List Term → Run) (verdict : Verdict)
-    → EndsWith (says zones) (with_record name counts go) (Is verdict) after → HoldsName zones name
+held_name : (zones : List Zone) (a : Address) (name : Labels) (counts after : Counts) (go : List Term → Run) (verdict : Verdict)
+    → EndsWith (says zones a) (with_record name counts go) (Is verdict) after → HoldsName zones name
 unfolding Rattle.spf_model.specs.Run.says Rattle.zone_answers.specs.Answers.answer_of
-held_name zones [] counts after go verdict ends = absurd cc
-held_name zones (label ∷ []) counts after go verdict ends = absurd cc
-held_name zones (label ∷ next ∷ labels) counts after go verdict ends =
-    held_in (says zones) zones (label ∷ next ∷ labels) counts after go verdict (λ target. answer_within 7 zones target kind.Txt) (zone_of zones (label ∷ next ∷ labels)) refl ends
+held_name zones a [] counts after go verdict ends = absurd cc
+held_name zones a (label ∷ []) counts after go verdict ends = absurd cc
+held_name zones a (label ∷ next ∷ labels) counts after go verdict ends =
+    held_in (says zones a) zones (label ∷ next ∷ labels) counts after go verdict (λ target. answer_within 7 zones target kind.Txt) (zone_of zones (label ∷ next ∷ labels)) refl ends
 
 given_name : (zones : List Zone) (limits : Limits) (domain : List ℕ) (name : Labels) (a : Address) (verdict : Verdict) → name_of domain ≡ Some name → Gives (says zones) limits domain a (Is verdict) → HoldsName zones name
 unfolding Rattle.spf_model.specs.Check.check_host
 given_name zones limits domain name a verdict named (other, after, is, ends) =
-    held_name zones name _ after _ verdict (subst (λ n. EndsWith (says zones) (check_host limits a domain n) (Is verdict) after) (some_once is named) ends)
+    held_name zones a name _ after _ verdict (subst (λ n. EndsWith (says zones a) (check_host limits a domain n) (Is verdict) after) (some_once is named) ends)
 
 pub holds_name : (zones : List Zone) (limits : Limits) (domain : List ℕ) (name : Labels) (verdict_of : Address → Verdict) → name_of domain ≡ Some name → AllHave (says zones) limits domain verdict_of → HoldsName zones name
 holds_name zones limits domain name verdict_of named all = given_name zones limits domain name (V4 0) (verdict_of (V4 0)) named (all (V4 0) (omega arith))
@@ -87,17 +87,17 @@ pieces_terms list from (to ∷ ends) h =
 
 -- ---- a chain gives each address its verdict
 
-pub chain_gives : (zones : Answering) (domain : List ℕ) (name : Labels) (list : List FlatTerm) (lists : List (List FlatTerm)) (records : ℕ) → name_of domain ≡ Some name → IsChain zones domain name lists
+pub chain_gives : (zones : AnsweringEach) (domain : List ℕ) (name : Labels) (list : List FlatTerm) (lists : List (List FlatTerm)) (records : ℕ) → name_of domain ≡ Some name → ((a : Address) → IsChain (zones a) domain name lists)
     → length lists ≡ records → records ≤ 11 → all_terms lists ≡ list → AllHaveWithin zones domain records (first list)
 chain_gives zones domain name list lists records named chain many few same a is =
-    given (chains_give_first zones receiver_limits a domain name lists chain (omega (arith, many, few)))
+    given (chains_give_first (zones a) receiver_limits a domain name lists (chain a) (omega (arith, many, few)))
   where
-    given : GivesFlat zones receiver_limits a domain name lists → GivesWithin zones domain records a (first list a)
+    given : GivesFlat (zones a) receiver_limits a domain name lists → GivesWithin zones domain records a (first list a)
     given h = record {
       name = name;
       counts = h.counts;
       named = named;
-      ends = subst (λ ts. EndsWith zones (check_host receiver_limits a domain name) (Is (first ts a)) h.counts) same h.ends;
+      ends = subst (λ ts. EndsWith (zones a) (check_host receiver_limits a domain name) (Is (first ts a)) h.counts) same h.ends;
       fewer = omega (arith, h.lookups, many);
       lookups = omega (arith, h.lookups, many, few);
       voids = h.voids;
@@ -109,7 +109,7 @@ pub records_give : RecordsGive
 records_give zones domain label name list [] words named prefixes cut hold = absurd (omega (arith, cut.some))
 records_give zones domain label name list (to ∷ ends) words named prefixes cut hold =
     chain_gives zones domain name list (pieces_from list 0 (to ∷ ends)) (length (to ∷ ends)) (unfolded domain name named)
-    (records_are_chain zones domain label name (piece list 0 to) (pieces_from list to ends) words named (omega (arith, cut.few, length_pieces list to ends)) (pieces_prefixes list 0 (to ∷ ends) prefixes) hold)
+    (λ a. records_are_chain (zones a) domain label name (piece list 0 to) (pieces_from list to ends) words named (omega (arith, cut.few, length_pieces list to ends)) (pieces_prefixes list 0 (to ∷ ends) prefixes) (hold a))
     (length_pieces list 0 (to ∷ ends)) cut.few (pieces_terms list 0 (to ∷ ends) cut.rise)
 
 -- ---- the fragment

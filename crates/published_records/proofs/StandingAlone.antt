@@ -4,6 +4,7 @@ use Rattle.std.specs.Prelude.{decimal}
 use Rattle.std.specs.List.{list_any, AllByRecursion}
 use Rattle.std.proofs.lemmas.Bool.{false_from_ne_true}
 use Rattle.std.proofs.lemmas.List.Sums.{length-filter, count_by-le-length}
+use Rattle.addr_bits.specs.declared.address.Address.{Address}
 use Rattle.dns_name.specs.Name.{IsUnder}
 use Rattle.master_reader.specs.declared.record.Body.{Body}
 use Rattle.master_reader.specs.declared.record.Body.TheVariants.{Txt}
@@ -29,12 +30,12 @@ use Rattle.published_records.proofs.StandingTexts.{record_is_spf, text_fits}
 
 -- ---- the zone
 
-lone_at : (name : List (List ℕ)) (records : List Record) → zone_of (with_zone [] name records) name ≡ Some (record { origin = name; records = distinct_records records })
+pub lone_at : (name : List (List ℕ)) (records : List Record) → zone_of (with_zone [] name records) name ≡ Some (record { origin = name; records = distinct_records records })
 lone_at name records =
     let zone : Zone = record { origin = name; records = distinct_records records } in
     sym (zone_here (with_zone [] name records) name zone (sym (ap (λ b. cond b (Some zone) None) (same_self name name refl))))
 
-lone_below : (name : List (List ℕ)) (front : List ℕ) (records : List Record)
+pub lone_below : (name : List (List ℕ)) (front : List ℕ) (records : List Record)
     → zone_of (with_zone [] name records) (front ∷ name) ≡ Some (record { origin = name; records = distinct_records records })
 lone_below name front records =
     let zone : Zone = record { origin = name; records = distinct_records records } in
@@ -119,9 +120,9 @@ no_clash zone owner h =
 
 -- ---- the law
 
-alone_at : (domain label : List ℕ) (name : List (List ℕ)) (lists : List (List FlatTerm))
-    → HoldAt (says (with_zone [] name (written_records domain label name 0 lists))) domain label name (length lists) (written_records domain label name 0 lists)
-alone_at domain label name lists k terms behind below one =
+alone_at : (a : Address) (domain label : List ℕ) (name : List (List ℕ)) (lists : List (List FlatTerm))
+    → HoldAt (says (with_zone [] name (written_records domain label name 0 lists)) a) domain label name (length lists) (written_records domain label name 0 lists)
+alone_at a domain label name lists k terms behind below one =
     let all : List Record = written_records domain label name 0 lists in
     let zone : Zone = record { origin = name; records = distinct_records all } in
     holds (with_zone [] name all) zone (record_owner name label k) (record_text domain label terms k (is_none behind)) [] all (lone_owner name label k all)
@@ -132,7 +133,7 @@ alone_at domain label name lists k terms behind below one =
       new_uncut = written_uncut domain label name name (record_owner name label k) 0 lists;
       plain = tt;
       spf = record_is_spf domain label terms k (is_none behind);
-    })
+    }) a
 
 pub records_stand_alone : RecordsStandAlone
 records_stand_alone domain label size others list ends name small cut = record {
@@ -142,7 +143,7 @@ records_stand_alone domain label size others list ends name small cut = record {
     room = omega (arith, count_with [] name all, length_distinct all, length_written domain label name 0 lists, length_pieces list 0 ends, cut.cut.few);
     no_clash = λ owner. no_clash (record { origin = name; records = distinct_records all }) owner (all_distinct (λ r. ClashesNever r.body) all (written_never domain label name 0 lists));
   };
-  hold = hold_all (says (with_zone [] name all)) domain label name lists (omega (arith, length_pieces list 0 ends, cut.cut.few)) (alone_at domain label name lists);
+  hold = λ a. hold_all (says (with_zone [] name all) a) domain label name lists (omega (arith, length_pieces list 0 ends, cut.cut.few)) (alone_at a domain label name lists);
 }
   where
     lists : List (List FlatTerm)

@@ -4,6 +4,7 @@ use Rattle.std.specs.List.{list_any, AllByRecursion, concat, cons_option}
 use Rattle.std.proofs.lemmas.Bool.{or_right, false_from_ne_true}
 use Rattle.std.proofs.lemmas.List.{map-append}
 use Rattle.std.proofs.lemmas.List.Elements.{filter-append, filter_map-append}
+use Rattle.addr_bits.specs.declared.address.Address.{Address}
 use Rattle.dns_name.specs.Name.{is_under}
 use Rattle.dns_name.proofs.Names.{under_itself}
 use Rattle.dns_name.proofs.Octets.{all_append}
@@ -18,7 +19,7 @@ use Rattle.zone_answers.specs.Answers.{zone_of, is_cut_off, is_delegation, is_of
 use Rattle.zone_answers.specs.Same.{same_name, same_record, distinct_records}
 use Rattle.zone_answers.proofs.Cuts.{any_also}
 use Rattle.zone_answers.proofs.Distinct.{all_distinct, record_same}
-use Rattle.zone_answers.proofs.Holding.{within, within_first, within_more}
+use Rattle.zone_answers.proofs.Holding.{eight_steps, within, within_first, within_more}
 use Rattle.zone_answers.proofs.Nodes.{same_true}
 use Rattle.spf_text.specs.Version.{is_spf_text}
 use Rattle.spf_model.specs.Check.{spf_text_of}
@@ -158,20 +159,20 @@ in_zone_is follow zone name strings old new s =
     ∙ answer_here follow (old_bodies name old) strings (plain_bodies name old s.plain)
 
 pub holds_strings : (zones : List Zone) (zone : Zone) (name : List (List ℕ)) (strings : List (List ℕ)) (old new : List Record) → zone_of zones name ≡ Some zone → StringsStand zone name strings old new
-    → Holds (says zones) name (concat strings)
+    → (a : Address) → Holds (says zones a) name (concat strings)
 unfolding says
-holds_strings zones zone name strings old new e s = record {
+holds_strings zones zone name strings old new e s a = record {
   bodies = txt_bodies (old_bodies name old) strings;
-  is_found = within_first zones name kinds.Txt ∙ within_more 9 8 zones name kinds.Txt refl ∙ ap (in_zone kinds.Txt (λ target. within 8 zones target kinds.Txt) name) e
+  is_found = sym (eight_steps zones name kinds.Txt) ∙ within_first 8 9 zones name kinds.Txt refl ∙ within_more 9 8 zones name kinds.Txt refl ∙ ap (in_zone kinds.Txt (λ target. within 8 zones target kinds.Txt) name) e
       ∙ in_zone_is (λ target. within 8 zones target kinds.Txt) zone name strings old new s;
   alone = one_text (old_bodies name old) strings (plain_bodies name old s.plain) s.spf;
 }
 
 -- the same for a text in its own strings
 pub holds : (zones : List Zone) (zone : Zone) (name : List (List ℕ)) (text : List ℕ) (old new : List Record) → zone_of zones name ≡ Some zone → StandsIn zone name text old new
-    → Holds (says zones) name text
-holds zones zone name text old new e s =
-    subst (Holds (says zones) name) (strings_join text)
+    → (a : Address) → Holds (says zones a) name text
+holds zones zone name text old new e s a =
+    subst (Holds (says zones a) name) (strings_join text)
     (holds_strings zones zone name (strings_of text) old new e (record {
       records = s.records;
       at_name = s.at_name;
@@ -179,4 +180,4 @@ holds zones zone name text old new e s =
       new_uncut = s.new_uncut;
       plain = s.plain;
       spf = ap is_spf_text (strings_join text) ∙ s.spf;
-    }))
+    }) a)

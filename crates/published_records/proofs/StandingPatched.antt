@@ -3,6 +3,7 @@ use Rattle.std.proofs.Common.{◌≡◌, ℕ, ◌<◌, ◌≤◌, ◌==◌, ◌�
 use Rattle.std.specs.Prelude.{decimal}
 use Rattle.std.specs.List.{list_any, AllByRecursion}
 use Rattle.std.proofs.lemmas.Bool.{eqb-false, false_from_ne_true, or_parts, true≢false}
+use Rattle.addr_bits.specs.declared.address.Address.{Address}
 use Rattle.dns_name.specs.Name.{is_under}
 use Rattle.dns_name.proofs.Names.{parent_under, under_itself}
 use Rattle.master_reader.specs.declared.record.Record.{Record}
@@ -156,12 +157,12 @@ all_both P Q R (r ∷ records) f h g = (f r h.0 g.0, all_both P Q R records f h.
 -- ---- the law
 
 -- what the law says of one zone that holds the name
-module _ (zones : List Zone) (domain label : List ℕ) (name : List (List ℕ)) (lists : List (List FlatTerm)) (zone : Zone) (held : zone_of zones name ≡ Some zone) (no_cut : is_cut_off zone name ≡ false) where
+module _ (a : Address) (zones : List Zone) (domain label : List ℕ) (name : List (List ℕ)) (lists : List (List FlatTerm)) (zone : Zone) (held : zone_of zones name ≡ Some zone) (no_cut : is_cut_off zone name ≡ false) where
   uncut_records : AllByRecursion (λ r. cuts zone.origin name r ≡ false) zone.records
   uncut_records = each_false (cuts zone.origin name) zone.records no_cut
 
   first_stands : (text : List ℕ) → has_own_alias zones name ≡ false → filter (λ r. same_name r.owner name) (written_records domain label name 0 lists) ≡ txt_record name text ∷ []
-      → is_spf_text text ≡ true → Holds (says (patched zones name (written_records domain label name 0 lists))) name text
+      → is_spf_text text ≡ true → Holds (says (patched zones name (written_records domain label name 0 lists)) a) name text
   first_stands text no_alias one spf =
       let new : List Record = written_records domain label name 0 lists in
       holds (patched zones name new) (patched_zone name new zone) name text (kept name zone.records) new (zone_patched zones name name new zone held held)
@@ -172,11 +173,11 @@ module _ (zones : List Zone) (domain label : List ℕ) (name : List (List ℕ)) 
         new_uncut = written_uncut domain label name zone.origin name 0 lists;
         plain = plain_kept name zone.records (no_target name zone.records (sym (ap (λ o. list_any (λ body. is_some (target_of body)) (bodies_in o name)) held) ∙ no_alias));
         spf = spf;
-      })
+      }) a
 
   later_stands : (front text : List ℕ) → is_taken zones (front ∷ name) ≡ false
       → filter (λ r. same_name r.owner (front ∷ name)) (written_records domain label name 0 lists) ≡ txt_record (front ∷ name) text ∷ []
-      → is_spf_text text ≡ true → Holds (says (patched zones name (written_records domain label name 0 lists))) (front ∷ name) text
+      → is_spf_text text ≡ true → Holds (says (patched zones name (written_records domain label name 0 lists)) a) (front ∷ name) text
   later_stands front text free one spf =
       let new : List Record = written_records domain label name 0 lists in
       let below : List (List ℕ) = front ∷ name in
@@ -192,10 +193,10 @@ module _ (zones : List Zone) (domain label : List ℕ) (name : List (List ℕ)) 
         plain = kept_also (λ r. same_name r.owner (front ∷ name) ≡ true → IsPlain r.body) name zone.records
             (all_weaker (λ r. is_under r.owner (front ∷ name) ≡ false) (λ r. same_name r.owner (front ∷ name) ≡ true → IsPlain r.body) zone.records (λ r h. free_plain (front ∷ name) r h) clear);
         spf = spf;
-      })
+      }) a
 
   patched_at : has_own_alias zones name ≡ false → ((k : ℕ) → 1 ≤ k → k < length lists → is_taken zones (record_owner name label k) ≡ false)
-      → HoldAt (says (patched zones name (written_records domain label name 0 lists))) domain label name (length lists) (written_records domain label name 0 lists)
+      → HoldAt (says (patched zones name (written_records domain label name 0 lists)) a) domain label name (length lists) (written_records domain label name 0 lists)
   patched_at no_alias free k terms behind below one = by (k == 0) refl
     where
       text : List ℕ
@@ -203,9 +204,9 @@ module _ (zones : List Zone) (domain label : List ℕ) (name : List (List ℕ)) 
 
       Stands : List (List ℕ) → Type 0
       Stands owner = filter (λ r. same_name r.owner owner) (written_records domain label name 0 lists) ≡ txt_record owner text ∷ []
-          → Holds (says (patched zones name (written_records domain label name 0 lists))) owner text
+          → Holds (says (patched zones name (written_records domain label name 0 lists)) a) owner text
 
-      by : (t : Bool) → (k == 0) ≡ t → Holds (says (patched zones name (written_records domain label name 0 lists))) (record_owner name label k) text
+      by : (t : Bool) → (k == 0) ≡ t → Holds (says (patched zones name (written_records domain label name 0 lists)) a) (record_owner name label k) text
       by true e = subst Stands (sym (owner_first name label k e)) (λ own. first_stands text no_alias own (record_is_spf domain label terms k (is_none behind))) one
       by false e =
           let later : k ≢ 0 = eqb-false k 0 e in
@@ -213,6 +214,6 @@ module _ (zones : List Zone) (domain label : List ℕ) (name : List (List ℕ)) 
           subst Stands (sym (owner_later name label k e)) (λ own. later_stands (label ++ decimal k) text own_free own (record_is_spf domain label terms k (is_none behind))) one
 
 pub records_stand_patched : RecordsStandPatched
-records_stand_patched zones domain label name lists few held no_alias free =
-    hold_all (says (patched zones name (written_records domain label name 0 lists))) domain label name lists few
-    (patched_at zones domain label name lists held.zone held.holds held.no_cut no_alias free)
+records_stand_patched zones domain label name lists few held no_alias free a =
+    hold_all (says (patched zones name (written_records domain label name 0 lists)) a) domain label name lists few
+    (patched_at a zones domain label name lists held.zone held.holds held.no_cut no_alias free)

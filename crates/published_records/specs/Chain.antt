@@ -3,7 +3,7 @@ use Rattle.std.specs.Prelude.{◌≡◌, ℕ, ◌+◌, ◌≤◌, Bool, true, fa
 use Rattle.addr_bits.specs.declared.address.Family.{Family}
 use Rattle.dns_name.specs.Name.{name_of_text}
 use Rattle.master_reader.specs.declared.record.Body.{Body}
-use Rattle.zone_answers.specs.declared.answer.QKind.TheVariants as kind
+use Rattle.zone_answers.specs.declared.ask_kind.AskKind.TheVariants as kind
 use Rattle.zone_answers.specs.declared.answer.Answer.TheVariants.{Found}
 use Rattle.spf_macros.specs.declared.piece.Piece.{Piece}
 use Rattle.spf_macros.specs.declared.piece.Piece.TheVariants.{Literal}

@@ -14,7 +14,7 @@ use Rattle.spf_grammar.specs.declared.flat.FlatTerm.{FlatTerm}
 use Rattle.spf_grammar.specs.declared.verdict.Verdict.{Verdict}
 use Rattle.spf_model.specs.Check.{check_host, receiver_limits}
 use Rattle.spf_model.specs.Judging.{Labels, name_of}
-use Rattle.spf_model.specs.Run.{Answering, EndsWith, says}
+use Rattle.spf_model.specs.Run.{AnsweringEach, EndsWith, says}
 use Rattle.spf_model.specs.declared.outcome.Counts.{Counts}
 use Rattle.spf_model.specs.declared.outcome.Outcome.TheVariants.{Is}
 use Rattle.fewest_terms.specs.Row.{NeedRow}
@@ -26,27 +26,28 @@ use Rattle.published_records.specs.Standing.{HoldsName, patched}
 
 -- RFC 7208, section 4.6.4: under the limits of a mail receiver check_host gives the address this verdict, by fewer
 -- lookups than there are records, so by at most 10, and by no void lookup
-pub record GivesWithin (zones : Answering) (domain : List ℕ) (records : ℕ) (a : Address) (verdict : Verdict)
+pub record GivesWithin (zones : AnsweringEach) (domain : List ℕ) (records : ℕ) (a : Address) (verdict : Verdict)
     : Type 0 where
   pub name : Labels
   pub counts : Counts
   pub named : name_of domain ≡ Some name
-  pub ends : EndsWith zones (check_host receiver_limits a domain name) (Is verdict) counts
+  pub ends : EndsWith (zones a) (check_host receiver_limits a domain name) (Is verdict) counts
   pub fewer : counts.lookups < records
   pub lookups : counts.lookups ≤ 10
   pub voids : counts.voids ≡ 0
 
 -- so it is for each address
-abbrev pub AllHaveWithin : Answering → (domain : List ℕ) → (records : ℕ) → (Address → Verdict) → Type 0
+abbrev pub AllHaveWithin : AnsweringEach → (domain : List ℕ) → (records : ℕ) → (Address → Verdict) → Type 0
 AllHaveWithin zones domain records verdict_of =
     (a : Address) → IsAddress a → GivesWithin zones domain records a (verdict_of a)
 
 -- RFC 7208, sections 4.6.4 and 6.1: the records of a cut that stand at their names, in whatever zones, give each
 -- address the verdict of the list
 abbrev pub RecordsGive : Type 0
-RecordsGive = (zones : Answering) (domain label : List ℕ) (name : List (List ℕ)) (list : List FlatTerm) (ends : List ℕ)
+RecordsGive = (zones : AnsweringEach) (domain label : List ℕ) (name : List (List ℕ)) (list : List FlatTerm)
+    (ends : List ℕ)
     → AreChainWords domain label → name_of_text domain ≡ Ok name → HavePrefixes list → IsCut (length list) ends
-    → HoldRecords zones domain label name 0 (pieces_from list 0 ends)
+    → ((a : Address) → HoldRecords (zones a) domain label name 0 (pieces_from list 0 ends))
     → AllHaveWithin zones domain (length ends) (first list)
 
 -- the records of a cut of a list

@@ -1,4 +1,5 @@
 -- Where records stand: alone as a zone, and in zones that were read.
+use Rattle.addr_bits.specs.declared.address.Address.{Address}
 use Rattle.std.specs.Prelude.{◌≡◌, ℕ, ◌<◌, ◌≤◌, ◌&&◌, Bool, false, not, IsFalse, List, [], ◌++◌, length, map, filter, Option, Some, None, is_some, if◌then◌else◌}
 use Rattle.master_reader.specs.declared.record.Record.{Record}
 use Rattle.zone_answers.specs.Answers.{zone_of, is_cut_off}
@@ -38,7 +39,7 @@ patched zones name records =
 pub record StandAlone (domain label : List ℕ) (name : List (List ℕ)) (lists : List (List FlatTerm)) : Type 0 where
   pub lendable : AreLendable name (written_records domain label name 0 lists)
   pub lent : IsLent [] name (written_records domain label name 0 lists)
-  pub hold : HoldRecords (says (with_zone [] name (written_records domain label name 0 lists)))
+  pub hold : (a : Address) → HoldRecords (says (with_zone [] name (written_records domain label name 0 lists)) a)
       domain label name 0 lists
 
 -- so it is for each cut that fits
@@ -58,4 +59,5 @@ abbrev pub RecordsStandPatched : Type 0
 RecordsStandPatched = (zones : List Zone) (domain label : List ℕ) (name : List (List ℕ)) (lists : List (List FlatTerm))
     → length lists ≤ 11 → HoldsName zones name → IsFalse (has_own_alias zones name)
     → ((k : ℕ) → 1 ≤ k → k < length lists → IsFalse (is_taken zones (record_owner name label k)))
-    → HoldRecords (says (patched zones name (written_records domain label name 0 lists))) domain label name 0 lists
+    → (a : Address)
+    → HoldRecords (says (patched zones name (written_records domain label name 0 lists)) a) domain label name 0 lists

@@ -1,4 +1,5 @@
 //! Laws of what is published. The functions do nothing: what they promise is the law.
+ghost use Rattle.publishing.specs.Policy.{DueIsShortest};
 ghost use Rattle.publishing.specs.Published.{DueIsBest, OnePublication};
 
 /// For the same settings, zones and verdicts one thing is due at most: one refusal, or one fragment.
@@ -11,4 +12,11 @@ pub fn one_publication()
 /// delegation, the records stand where they are published.
 pub fn due_is_best()
     ensures { DueIsBest }
+{}
+
+/// For legal settings, where one of the zones holds the domain, below no delegation, a fragment that is due is a
+/// shortest one: its list gives each address its verdict, no list that does has fewer terms, and its records stand where
+/// they are published.
+pub fn due_is_shortest()
+    ensures { DueIsShortest }
 {}

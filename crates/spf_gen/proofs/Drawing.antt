@@ -34,7 +34,7 @@ one_more : (start n : ℕ) (b : Bool) → map (term start) (cond b (n ∷ []) []
 one_more start n true = refl
 one_more start n false = refl
 
-networks_more : (start n k : ℕ) → networks_in start (n + 1) k ≡ networks_in start n k ++ cond (n % 8 == k) (term start n ∷ []) []
+pub networks_more : (start n k : ℕ) → networks_in start (n + 1) k ≡ networks_in start n k ++ cond (n % 8 == k) (term start n ∷ []) []
 networks_more start n k =
     ap (λ (xs : List ℕ). map (term start) (filter (λ i. i % 8 == k) xs)) (numbers_more n)
     ∙ (ap (λ (xs : List ℕ). map (term start) xs) (filter-append (λ i. i % 8 == k) (range_with_len 0 n) (n ∷ []))

@@ -1,2 +1,5 @@
 pub mod Drawing
 pub mod Lines
+pub mod Places
+pub mod Reading
+pub mod Texts

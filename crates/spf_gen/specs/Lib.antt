@@ -2,3 +2,4 @@ pub mod Draws
 pub mod Generated
 pub mod Laws
 pub mod Networks
+pub mod Records

@@ -6,5 +6,5 @@ mod laws;
 mod network;
 mod zone;
 
-pub use laws::first_of_zero;
+pub use laws::{first_of_zero, zone_is_read};
 pub use zone::generate;

@@ -109,6 +109,25 @@ fn expand_piece(
     Ok(None)
 }
 
+/// What pieces expand to, or the first need.
+pub(crate) fn expand_pieces(
+    alloc: Global,
+    pieces: &[Piece],
+    family: Family,
+    domain: &[u8],
+) -> Result<Expanded, AllocError>
+    requires { IsTrue (list_all is_for_all pieces.now) }
+    ensures { IfOk result (λ expanded. expanded ≡ expansion.expansion family domain.now pieces.now) }
+{
+    let mut out = Bytes::new(alloc);
+    for piece in pieces {
+        if let Some(need) = expand_piece(alloc, &mut out, *piece, family, domain)? {
+            return Ok(Expanded::Needs(need));
+        }
+    }
+    Ok(Expanded::Out(out))
+}
+
 /// What a macro text expands to for a family of addresses and a domain, whose final dot counts for
 /// nothing (RFC 7208, section 7.3); or what the first macro needs that needs more than these. The
 /// letters c, r and t, which stand in explanations alone, must not be there: `are_for_all` tests it. `AllocError` where
@@ -122,11 +141,5 @@ pub fn expand(
     requires { IsTrue (list_all is_for_all pieces.now) }
     ensures { IfOk result (λ expanded. expanded ≡ expansion.expansion family domain.now pieces.now) }
 {
-    let mut out = Bytes::new(alloc);
-    for piece in pieces.as_slice() {
-        if let Some(need) = expand_piece(alloc, &mut out, *piece, family, domain)? {
-            return Ok(Expanded::Needs(need));
-        }
-    }
-    Ok(Expanded::Out(out))
+    expand_pieces(alloc, pieces.as_slice(), family, domain)
 }

@@ -6,13 +6,15 @@ use Rattle.zone_answers.specs.declared.answer.Question.{Question}
 use Rattle.zone_answers.specs.declared.answer.Answer.{Answer}
 use Rattle.zone_answers.specs.declared.answer.Answer.TheVariants as answer
 use Rattle.spf_macros.specs.declared.piece.Piece.{Piece}
+use Rattle.spf_model.specs.declared.gathered.Gathered.{Gathered}
+use Rattle.spf_model.specs.declared.gathered.Hosts.TheVariants.{Common}
 use Rattle.spf_model.specs.declared.outcome.Counts.{Counts}
 use Rattle.spf_model.specs.declared.outcome.Halt.{Halt}
 use Rattle.spf_model.specs.declared.outcome.Halt.TheVariants.{Ended, Memory}
 use Rattle.spf_model.specs.declared.outcome.Outcome.{Outcome}
 use Rattle.spf_model.specs.Run.{Run, Ends, Asks, Answering}
 use Rattle.spf_model.specs.Judging.{Labels, Site, with_target, with_name, name_of, answered, ask}
-use Rattle.spf_model.specs.Leads.{NoVerdict, HandsOn, Halts}
+use Rattle.spf_model.specs.Leads.{common_of, NoVerdict, HandsOn, Halts}
 use Rattle.spf_model.specs.Settling.{Follows}
 use Rattle.spf_model.specs.Settling.{PartOf, Passes, Stops, Settles}
 use Rattle.spf_model.proofs.Following.{follows_itself, follows_question}
@@ -61,6 +63,28 @@ pub settles_same : {A : Type 0} (zones : Answering) (asked more : List Question)
     → ((counts : Counts) (go : A → Run) → part counts go ≡ other counts go) → Settles zones other asked more result → Settles zones part asked more result
 settles_same {A} zones asked more part other result same h =
     subst (λ (p : PartOf A). Settles zones p asked more result) (λ i counts go. sym (same counts go) i) h
+
+-- a part of which something is made that is handed on
+abbrev pub handing : {A B : Type 0} → (A → B) → PartOf A → PartOf B
+handing {A} f part counts go = part counts (λ (x : A). go (f x))
+
+abbrev onward : {A B : Type 0} → (A → B) → A → PartOf B
+onward f x counts go = go (f x)
+
+pub hands : {A B : Type 0} (zones : Answering) (asked more : List Question) (part : PartOf A) (f : A → B) (x : A)
+    → Settles zones part asked more (Ok x) → Settles zones (handing f part) asked more (Ok (f x))
+hands zones asked more part f x h =
+    settles_next zones asked more more part (onward f) x (Ok (f x)) h (settles_passing zones more (onward f x) (f x) (λ counts go. refl))
+
+pub halts_handing : {A B : Type 0} (zones : Answering) (asked more : List Question) (part : PartOf A) (f : A → B) (halt : Halt)
+    → Settles zones part asked more (Err halt) → Settles zones (handing f part) asked more (Err halt)
+halts_handing zones asked more part f halt h = settles_first zones asked more part (onward f) halt h
+
+-- what all addresses have in common
+pub commons : (zones : Answering) (asked more : List Question) (part : PartOf Gathered) (result : Result Gathered Halt)
+    → Settles zones part asked more result → Settles zones (handing Common part) asked more (common_of result)
+commons zones asked more part (Ok x) h = hands zones asked more part Common x h
+commons zones asked more part (Err halt) h = halts_handing zones asked more part Common halt h
 
 -- ---- parts of a run
 

@@ -7,6 +7,7 @@ use Rattle.addr_bits.specs.Address.{family_of}
 use Rattle.zone_answers.specs.Answers.{kind_in}
 use Rattle.zone_answers.specs.declared.answer.QKind.{QKind}
 use Rattle.zone_answers.specs.declared.answer.QKind.TheVariants as kind
+use Rattle.zone_answers.specs.declared.ask_kind.AskKind.TheVariants as ask_kind
 use Rattle.zone_answers.specs.declared.answer.Question.{Question}
 use Rattle.zone_answers.specs.declared.answer.Answer.{Answer}
 use Rattle.zone_answers.specs.declared.answer.Answer.TheVariants as answer
@@ -24,13 +25,16 @@ use Rattle.spf_grammar.specs.declared.policy.Term.{Term}
 use Rattle.spf_grammar.specs.declared.policy.Term.TheVariants.{Directive, Redirect, Exp, Unknown}
 use Rattle.spf_grammar.specs.declared.policy.Policy.{Policy}
 use Rattle.spf_model.specs.declared.outcome.Cause.TheVariants as cause
+use Rattle.spf_macros.specs.Reversed.{reverse_suffix}
 use Rattle.spf_model.specs.declared.gathered.Gathered.{Gathered}
+use Rattle.spf_model.specs.declared.gathered.Hosts.{Hosts}
+use Rattle.spf_model.specs.declared.gathered.Hosts.TheVariants.{Common, Reversed}
 use Rattle.spf_model.specs.declared.outcome.Counts.{Counts}
 use Rattle.spf_model.specs.declared.outcome.Limits.{Limits}
 use Rattle.spf_model.specs.declared.outcome.Outcome.{Outcome}
 use Rattle.spf_model.specs.declared.outcome.Outcome.TheVariants.{Nothing, Is, Perm, Temp, Unsettled}
 use Rattle.spf_model.specs.Run.{Run, Ends, Asks, Reads, Answering, EndsWith, then_do}
-use Rattle.spf_model.specs.Judging.{Site, Sub, Labels, at, name_of, go_if, counted, void_counted, with_text, with_target, with_name, naming, with_verdict, answered, ask, ask_all, is_void, answer_bodies, is_pass, question_of, exchange_of, gather_hosts, gather_target, gather_mx, gather, some_void, is_met, judge_hosts, judged_by, judge}
+use Rattle.spf_model.specs.Judging.{Site, Sub, Labels, at, name_of, go_if, counted, void_counted, with_text, with_target, with_name, naming, with_verdict, answered, ask, ask_all, is_void, answer_bodies, is_pass, question_of, exchange_of, gather_hosts, gather_target, gather_mx, gather_exists, gather_own, gather, reversed_question, some_void, is_met, judge_hosts, judged_by, judge}
 use Rattle.spf_model.specs.Check.{unless_matched, term_after, trying, tried, redirect_from, default, spf_text_of, with_policy, with_texts, with_answer, with_record, check}
 use Rattle.spf_model.specs.Laws.{DepthSuffices}
 use Rattle.spf_model.proofs.RunLaws.{ends_split, ends_after}
@@ -192,12 +196,34 @@ gather_mx_alike zones n site t spec c go go' least goes =
     (λ c'. gather_hosts site t (kind_in site.family) (is_void found) exchanges c' go) (λ c'. gather_hosts site t (kind_in site.family) (is_void found) exchanges c' go') least (λ v. v)
     (λ fits. gather_hosts_alike zones n site t (kind_in site.family) (is_void found) exchanges c go go' least goes)))
 
+gather_exists_alike : (zones : Answering) (n : ℕ) (site : Site) (t : ℕ) (spec : List Piece) (suffix : Option Expanded) (c : Counts) (go go' : Hosts → Run) → n ≤ c.lookups
+    → ((hosts : Hosts) → Alike zones site.limits.lookups n (go hosts) (go' hosts))
+    → Alike zones site.limits.lookups n (gather_exists site t spec suffix c go) (gather_exists site t spec suffix c go')
+gather_exists_alike zones n site t spec None c go go' least goes =
+    gather_target_alike zones n site t kind.A (Some spec) c (λ gathered. go (Common gathered)) (λ gathered. go' (Common gathered)) least (λ gathered. goes (Common gathered))
+gather_exists_alike zones n site t spec (Some suffix) c go go' least goes =
+    with_text_alike zones site.limits.lookups n site t c suffix _ _ least (λ text.
+    go_if_alike zones site.limits.lookups n (nat_le (length text) 189) (Unsettled cause.Address (at site t)) c
+    (λ c'. with_name (Unsettled cause.Target (at site t)) c' (name_of text) (λ name. go (Reversed name)))
+    (λ c'. with_name (Unsettled cause.Target (at site t)) c' (name_of text) (λ name. go' (Reversed name))) least (λ v. v)
+    (λ fits. with_name_alike zones site.limits.lookups n (Unsettled cause.Target (at site t)) c (name_of text) _ _ least (λ v. v) (λ name. goes (Reversed name))))
+
+own_alike : (zones : Answering) (n : ℕ) (site : Site) (t : ℕ) (hosts : Hosts) (c : Counts) (go go' : Gathered → Run) → n ≤ c.lookups
+    → GathersAlike zones site.limits.lookups n go go'
+    → Alike zones site.limits.lookups n (gather_own site t hosts c go) (gather_own site t hosts c go')
+own_alike zones n site t (Common gathered) c go go' least goes = goes gathered
+own_alike zones n site t (Reversed name) c go go' least goes =
+    ask_alike zones site.limits.lookups n site t c (reversed_question site.family name) (λ found. go (record { void = false; answers = found ∷ [] }))
+    (λ found. go' (record { void = false; answers = found ∷ [] })) least (λ found. goes (record { void = false; answers = found ∷ [] }))
+
 gather_alike : (zones : Answering) (n : ℕ) (site : Site) (t : ℕ) (m : Mechanism) (c : Counts) (go go' : Gathered → Run) → n ≤ c.lookups
     → GathersAlike zones site.limits.lookups n go go'
     → Alike zones site.limits.lookups n (gather site t m c go) (gather site t m c go')
 gather_alike zones n site t (A spec l4 l6) c go go' least goes = gather_target_alike zones n site t (kind_in site.family) spec c go go' least goes
 gather_alike zones n site t (Mx spec l4 l6) c go go' least goes = gather_mx_alike zones n site t spec c go go' least goes
-gather_alike zones n site t (Exists spec) c go go' least goes = gather_target_alike zones n site t kind.A (Some spec) c go go' least goes
+gather_alike zones n site t (Exists spec) c go go' least goes =
+    gather_exists_alike zones n site t spec (reverse_suffix site.family site.domain spec) c (λ hosts. gather_own site t hosts c go) (λ hosts. gather_own site t hosts c go') least
+    (λ hosts. own_alike zones n site t hosts c go go' least goes)
 gather_alike zones n site t All c go go' least goes = goes (record { void = false; answers = [] })
 gather_alike zones n site t (Include spec) c go go' least goes = goes (record { void = false; answers = [] })
 gather_alike zones n site t (Ptr spec) c go go' least goes = goes (record { void = false; answers = [] })
@@ -306,8 +332,8 @@ with_record_alike : (zones : Answering) (most n : ℕ) (name : Labels) (c : Coun
 with_record_alike zones most n [] c go go' least goes = ends_alike zones most n _ c least (λ v. absurd v)
 with_record_alike zones most n (l ∷ []) c go go' least goes = ends_alike zones most n _ c least (λ v. absurd v)
 with_record_alike zones most n (l ∷ m ∷ ls) c go go' least goes =
-    asks_alike zones most n (record { name = l ∷ m ∷ ls; kind = kind.Txt }) (λ found. with_answer (l ∷ m ∷ ls) c found go) (λ found. with_answer (l ∷ m ∷ ls) c found go')
-    (with_answer_alike zones most n (l ∷ m ∷ ls) c (zones (record { name = l ∷ m ∷ ls; kind = kind.Txt })) go go' least goes)
+    asks_alike zones most n (record { name = l ∷ m ∷ ls; kind = ask_kind.Txt }) (λ found. with_answer (l ∷ m ∷ ls) c found go) (λ found. with_answer (l ∷ m ∷ ls) c found go')
+    (with_answer_alike zones most n (l ∷ m ∷ ls) c (zones (record { name = l ∷ m ∷ ls; kind = ask_kind.Txt })) go go' least goes)
 
 -- the check at a depth and at one more
 check_alike : (zones : Answering) (limits : Limits) (a : Address) (depth : ℕ) (domain : List ℕ) (name : Labels) (c : Counts)

@@ -1,7 +1,7 @@
 -- The record of a domain, for every address.
 use Rattle.std.proofs.Common.{◌≡◌, ℕ, ◌<◌, ◌≤◌, ◌++◌, List, [], ◌∷◌, length, refl, sym, ◌∙◌, ap, subst, ◌⊎◌, inl, inr, Option, Some, None, Result, Ok, Err, arith}
 use Rattle.addr_bits.proofs.Texts.{one_address}
-use Rattle.zone_answers.specs.declared.answer.QKind.TheVariants as kind
+use Rattle.zone_answers.specs.declared.ask_kind.AskKind.TheVariants as kind
 use Rattle.zone_answers.specs.declared.answer.Question.{Question}
 use Rattle.zone_answers.specs.declared.answer.Answer.{Answer}
 use Rattle.zone_answers.specs.declared.answer.Answer.TheVariants as answer

@@ -12,16 +12,19 @@ use Rattle.spf_grammar.specs.declared.policy.Mechanism.{Mechanism}
 use Rattle.spf_grammar.specs.declared.policy.Mechanism.TheVariants.{Include}
 use Rattle.spf_grammar.specs.declared.policy.Term.{Term}
 use Rattle.spf_grammar.specs.declared.policy.Term.TheVariants.{Directive, Redirect, Exp, Unknown}
+use Rattle.zone_answers.specs.declared.answer.Answer.{Answer}
 use Rattle.spf_model.specs.declared.gathered.Gathered.{Gathered}
+use Rattle.spf_model.specs.declared.gathered.Hosts.{Hosts}
+use Rattle.spf_model.specs.declared.gathered.Hosts.TheVariants.{Common, Reversed}
 use Rattle.spf_model.specs.declared.outcome.Counts.{Counts}
 use Rattle.spf_model.specs.declared.outcome.Halt.{Halt}
 use Rattle.spf_model.specs.declared.outcome.Halt.TheVariants.{Ended, Memory}
 use Rattle.spf_model.specs.declared.outcome.Outcome.{Outcome}
 use Rattle.spf_model.specs.declared.outcome.Outcome.TheVariants.{Nothing, Is, Perm, Temp, Unsettled}
 use Rattle.spf_model.specs.Run.{Run, Ends, Answering, EndsWith, then_do}
-use Rattle.spf_model.specs.Judging.{Site, Sub, Labels, Judge, at, counted, void_counted, gather, some_void, is_met, judge_gathered, judge_hosts, judge, judged_by, is_pass, naming_target, with_verdict, with_domain}
+use Rattle.spf_model.specs.Judging.{Site, Sub, Labels, Judge, at, counted, void_counted, answered, gather, gather_common, gather_own, reversed_question, some_void, is_met, judge_gathered, judge_hosts, judge, judged_by, is_pass, naming_target, with_verdict, with_domain}
 use Rattle.spf_model.specs.Check.{term_after, unless_matched, trying, tried, redirect_from, default, evaluated, with_record, check}
-use Rattle.spf_model.specs.Leads.{LeadsTo, HandsOn, NoVerdict, Halts, IsJudged, IsVerdictOf, TargetFits, TermsFit, required, required_of}
+use Rattle.spf_model.specs.Leads.{HostsFit, IsShort, LeadsTo, HandsOn, NoVerdict, Halts, IsJudged, IsVerdictOf, TargetFits, TermsFit, required, required_of}
 use Rattle.spf_model.proofs.Parts.{halts_through}
 use Rattle.spf_model.proofs.RunLaws.{ends_after}
 
@@ -80,6 +83,61 @@ pub target_unnamed : (zones : Answering) (site : Site) (sub : Sub) (t : ℕ) (sp
 target_unnamed zones site sub t spec c d halt count halts =
     halts_through zones (with_verdict site sub t spec c) (naming_target site t spec d) (λ go. on_domain site sub t go d) halt
     (λ go. count (λ counts. naming_target site t spec counts (on_domain site sub t go counts))) halts
+
+-- ---- what is gathered for an address
+
+pub uncommon : (zones : Answering) (site : Site) (t : ℕ) (m : Mechanism) (d : Counts) (halt : Halt) → Halts zones (gather_common site t m d) halt → Halts zones (gather site t m d) halt
+uncommon zones site t m d halt halts =
+    halts_through zones (gather site t m d) (gather_common site t m d) (λ go hosts. gather_own site t hosts d go) halt (λ go outcome after h. h) halts
+
+pub owns_none : (zones : Answering) (site : Site) (t : ℕ) (m : Mechanism) (d : Counts) (hosts : Hosts) (halt : Halt) → HandsOn zones (gather_common site t m d) hosts
+    → Halts zones (gather_own site t hosts d) halt → Halts zones (gather site t m d) halt
+owns_none zones site t m d hosts halt common halts =
+    halts_through zones (gather site t m d) (gather_own site t hosts d) (λ go. go) halt (λ go outcome after h. common (λ others. gather_own site t others d go) outcome after h) halts
+
+pub owns : (zones : Answering) (site : Site) (t : ℕ) (m : Mechanism) (d : Counts) (hosts : Hosts) (gathered : Gathered) → HandsOn zones (gather_common site t m d) hosts
+    → HandsOn zones (gather_own site t hosts d) gathered → HandsOn zones (gather site t m d) gathered
+owns zones site t m d hosts gathered common own = λ go outcome after h. common (λ others. gather_own site t others d go) outcome after (own go outcome after h)
+
+-- an `exists` asks below a name that is short enough
+pub fit_short : (m : Mechanism) (hosts : Hosts) → HostsFit m hosts → IsShort hosts
+fit_short m (Common gathered) fit = tt
+fit_short m (Reversed name) fit = fit.2
+
+-- the answer at the reversed name
+pub own_answer : (zones : Answering) (site : Site) (t : ℕ) (name : Labels) (c : Counts) (found : Answer) → zones (reversed_question site.family name) ≡ found
+    → ((go : Answer → Run) → answered site t c go found ≡ go found) → HandsOn zones (gather_own site t (Reversed name) c) (record { void = false; answers = found ∷ [] })
+own_answer zones site t name c found e goes = λ go outcome after h.
+    let next : Answer → Run = λ x. go (record { void = false; answers = x ∷ [] }) in
+    subst (λ (x : Answer). EndsWith zones (answered site t c next x) outcome after) (sym e)
+    (subst (λ (run : Run). EndsWith zones run outcome after) (sym (goes next)) h)
+
+pub own_end : (zones : Answering) (site : Site) (t : ℕ) (name : Labels) (c : Counts) (found : Answer) (o : Outcome) (halt : Halt) → zones (reversed_question site.family name) ≡ found
+    → NoVerdict o → ((go : Answer → Run) → answered site t c go found ≡ Ends o c) → halt ≡ Ended o → Halts zones (gather_own site t (Reversed name) c) halt
+own_end zones site t name c found o halt e none ends is =
+    subst (λ (h : Halt). Halts zones (gather_own site t (Reversed name) c) h) (sym is) (
+      none,
+      λ go.
+          let next : Answer → Run = λ x. go (record { void = false; answers = x ∷ [] }) in (
+            c,
+            subst (λ (x : Answer). EndsWith zones (answered site t c next x) o c) (sym e)
+                (subst (λ (run : Run). EndsWith zones run o c) (sym (ends next)) (refl, refl)),
+          ),
+    )
+
+-- so it is gathered
+pub own_gathered : (zones : Answering) (site : Site) (t : ℕ) (name : Labels) (c : Counts) (found : Answer) (hosts : Hosts) (answers : List Answer) → hosts ≡ Reversed name → answers ≡ found ∷ []
+    → zones (reversed_question site.family name) ≡ found → ((go : Answer → Run) → answered site t c go found ≡ go found)
+    → HandsOn zones (gather_own site t hosts c) (record { void = false; answers = answers })
+own_gathered zones site t name c found hosts answers is are e goes =
+    subst (λ (xs : List Answer). HandsOn zones (gather_own site t hosts c) (record { void = false; answers = xs })) (sym are)
+    (subst (λ (h : Hosts). HandsOn zones (gather_own site t h c) (record { void = false; answers = found ∷ [] })) (sym is) (own_answer zones site t name c found e goes))
+
+pub own_halts : (zones : Answering) (site : Site) (t : ℕ) (name : Labels) (c : Counts) (found : Answer) (hosts : Hosts) (o : Outcome) (halt : Halt) → hosts ≡ Reversed name
+    → zones (reversed_question site.family name) ≡ found → NoVerdict o → ((go : Answer → Run) → answered site t c go found ≡ Ends o c) → halt ≡ Ended o
+    → Halts zones (gather_own site t hosts c) halt
+own_halts zones site t name c found hosts o halt is e none ends ended =
+    subst (λ (h : Hosts). Halts zones (gather_own site t h c) halt) (sym is) (own_end zones site t name c found o halt e none ends ended)
 
 -- ---- a term that asks for hosts
 

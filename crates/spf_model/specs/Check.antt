@@ -1,11 +1,12 @@
 -- check_host of RFC 7208, for one address.
-use Rattle.std.specs.Prelude.{ℕ, zero, suc, ◌+◌, min, List, [], ◌∷◌, filter_map, Option, Some, None, Bool, true, false, if◌then◌else◌}
+use Rattle.std.specs.Prelude.{ℕ, zero, suc, ◌+◌, min, List, [], ◌∷◌, filter_map}
+use Rattle.std.specs.Prelude.{Option, Some, None, Bool, true, false, if◌then◌else◌}
 use Rattle.std.specs.List.{concat}
 use Rattle.addr_bits.specs.Address.{family_of}
 use Rattle.addr_bits.specs.declared.address.Address.{Address}
 use Rattle.master_reader.specs.declared.record.Body.{Body}
 use Rattle.master_reader.specs.declared.record.Body.TheVariants as body
-use Rattle.zone_answers.specs.declared.answer.QKind.TheVariants as kind
+use Rattle.zone_answers.specs.declared.ask_kind.AskKind.TheVariants as kind
 use Rattle.zone_answers.specs.declared.answer.Answer.{Answer}
 use Rattle.zone_answers.specs.declared.answer.Answer.TheVariants as answer
 use Rattle.spf_macros.specs.declared.piece.Piece.{Piece}
@@ -49,7 +50,8 @@ trying judges t (Unknown name value) counts next = next counts
 -- none matches
 abbrev pub tried : Judge → ℕ → List Term → Counts → (Counts → Run) → Run
 tried judges t [] counts last = last counts
-tried judges t (term ∷ terms) counts last = trying judges t term counts (λ counts. tried judges (term_after t) terms counts last)
+tried judges t (term ∷ terms) counts last =
+    trying judges t term counts (λ counts. tried judges (term_after t) terms counts last)
 
 -- RFC 7208, section 6.1: the redirect of a record, with the number of its term
 abbrev pub redirect_from : ℕ → List Term → Option (ℕ × List Piece)
@@ -63,11 +65,13 @@ redirect_from t (Unknown name value ∷ terms) = redirect_from (term_after t) te
 -- redirect
 abbrev pub default : Site → Sub → Counts → Option (ℕ × List Piece) → Run
 default site sub counts None = Ends (Is Neutral) counts
-default site sub counts (Some redirect) = with_verdict site sub redirect.0 redirect.1 counts (λ verdict counts. Ends (Is verdict) counts)
+default site sub counts (Some redirect) =
+    with_verdict site sub redirect.0 redirect.1 counts (λ verdict counts. Ends (Is verdict) counts)
 
 -- a record's outcome: its directives, and then its default
 abbrev pub evaluated : Site → Address → Sub → List Term → Counts → Run
-evaluated site a sub terms counts = tried (judge site a sub) 1 terms counts (λ counts. default site sub counts (redirect_from 1 terms))
+evaluated site a sub terms counts =
+    tried (judge site a sub) 1 terms counts (λ counts. default site sub counts (redirect_from 1 terms))
 
 -- ---- the record of a name
 

@@ -1,5 +1,6 @@
 -- What a term of a record comes to.
-use Rattle.std.specs.Prelude.{ℕ, ◌+◌, Bool, true, false, nat_le, List, [], ◌∷◌, ◌||◌, length, map, filter_map, Option, Some, None, Result, Ok, Err}
+use Rattle.std.specs.Prelude.{ℕ, ◌+◌, Bool, true, false, nat_le, List, [], ◌∷◌, ◌||◌, length, map, filter_map}
+use Rattle.std.specs.Prelude.{Option, Some, None, Result, Ok, Err}
 use Rattle.std.specs.List.{list_any}
 use Rattle.addr_bits.specs.Prefix.{cidr_of}
 use Rattle.addr_bits.specs.declared.address.Address.{Address}
@@ -16,6 +17,7 @@ use Rattle.zone_answers.specs.declared.answer.Question.{Question}
 use Rattle.zone_answers.specs.declared.answer.Answer.{Answer}
 use Rattle.zone_answers.specs.declared.answer.Answer.TheVariants as answer
 use Rattle.zone_answers.specs.Answers.{kind_in}
+use Rattle.zone_answers.specs.Questions.{ask_kind_of, reversed_kind}
 pub use Rattle.zone_answers.specs.Answers.{answer_bodies}
 use Rattle.spf_macros.specs.declared.piece.Piece.{Piece}
 use Rattle.spf_macros.specs.declared.expansion.Need.{Need}
@@ -23,6 +25,7 @@ use Rattle.spf_macros.specs.declared.expansion.Need.TheVariants as need
 use Rattle.spf_macros.specs.declared.expansion.Expanded.{Expanded}
 use Rattle.spf_macros.specs.declared.expansion.Expanded.TheVariants.{Out, Needs}
 use Rattle.spf_macros.specs.Expansion.{target}
+use Rattle.spf_macros.specs.Reversed.{reverse_suffix}
 use Rattle.spf_grammar.specs.Flat.{agrees, covers}
 use Rattle.spf_grammar.specs.declared.flat.Net.TheVariants as net
 use Rattle.spf_grammar.specs.declared.verdict.Verdict.{Verdict}
@@ -37,6 +40,8 @@ use Rattle.spf_model.specs.declared.outcome.Place.{Place}
 use Rattle.spf_model.specs.declared.outcome.Outcome.{Outcome}
 use Rattle.spf_model.specs.declared.outcome.Outcome.TheVariants.{Nothing, Is, Perm, Temp, Unsettled}
 use Rattle.spf_model.specs.declared.gathered.Gathered.{Gathered}
+use Rattle.spf_model.specs.declared.gathered.Hosts.{Hosts}
+use Rattle.spf_model.specs.declared.gathered.Hosts.TheVariants.{Common, Reversed}
 use Rattle.spf_model.specs.Run.{Run, Ends, Asks, then_do}
 
 -- the labels of a name
@@ -121,7 +126,8 @@ naming site t spec counts go =
 -- which is no name is an error
 abbrev pub naming_target : Site → ℕ → List Piece → Counts → (List ℕ × Labels → Run) → Run
 naming_target site t spec counts go =
-    with_target site t counts (Some spec) (λ text. with_name (Perm cause.Missing (at site t)) counts (name_of text) (λ name. go (text, name)))
+    with_target site t counts (Some spec) (λ text.
+    with_name (Perm cause.Missing (at site t)) counts (name_of text) (λ name. go (text, name)))
 
 -- RFC 7208, sections 5.2 and 6.1: a term that asks for a record counts a lookup, and goes on with its domain
 abbrev pub with_domain : Site → ℕ → List Piece → Counts → (List ℕ → Labels → Counts → Run) → Run
@@ -200,7 +206,11 @@ exchange_of body.Other = None
 
 -- the question for records of a kind at a name
 abbrev pub question_of : QKind → Labels → Question
-question_of kind name = record { name = name; kind = kind }
+question_of kind name = record { name = name; kind = ask_kind_of kind }
+
+-- RFC 7208, sections 5.7 and 7.2: the question at the reversed names below this one, for the addresses of a family
+abbrev pub reversed_question : Family → Labels → Question
+reversed_question family name = record { name = name; kind = reversed_kind family }
 
 -- RFC 7208, sections 5.3, 5.4 and 5.7: gathers the answers of these hosts. That the answer which named them was void
 -- counts for the term's void
@@ -227,17 +237,46 @@ gather_mx site t spec counts go =
     naming site t spec counts (λ name.
     ask site t counts (question_of kind.Mx name) (λ found. gather_exchanges site t found counts go))
 
--- RFC 7208, section 5: what a mechanism gathers. `a` and `mx` ask for addresses of the family (sections 5.3 and 5.4),
--- and `exists` for those of IPv4 (section 5.7); no other mechanism asks for hosts
+-- RFC 7208, sections 5.7 and 7.3: the name below which an `exists` asks whose text begins with the reversed address and a
+-- dot. What the rest needs is left open, and so is, by the project's own choice, one of more than 189 characters, which
+-- behind the 63 of a reversed IPv6 address and a dot would have more than 253, and one that is no name
+abbrev pub naming_suffix : Site → ℕ → Expanded → Counts → (Labels → Run) → Run
+naming_suffix site t suffix counts go =
+    with_text site t counts suffix (λ text.
+    go_if (nat_le (length text) 189) (Unsettled cause.Address (at site t)) counts (λ counts.
+    with_name (Unsettled cause.Target (at site t)) counts (name_of text) go))
+
+-- RFC 7208, section 5.7: an `exists` asks at its target, or else each address at its reversed name
+abbrev pub gather_exists : Site → ℕ → List Piece → Option Expanded → Counts → (Hosts → Run) → Run
+gather_exists site t spec None counts go =
+    gather_target site t kind.A (Some spec) counts (λ gathered. go (Common gathered))
+gather_exists site t spec (Some suffix) counts go = naming_suffix site t suffix counts (λ name. go (Reversed name))
+
+-- RFC 7208, section 5: what a mechanism gathers for every address of the family alike. `a` and `mx` ask for addresses of
+-- the family (sections 5.3 and 5.4), and `exists` for those of IPv4 (section 5.7); no other mechanism asks for hosts
+abbrev pub gather_common : Site → ℕ → Mechanism → Counts → (Hosts → Run) → Run
+gather_common site t (A spec len4 len6) counts go =
+    gather_target site t (kind_in site.family) spec counts (λ gathered. go (Common gathered))
+gather_common site t (Mx spec len4 len6) counts go = gather_mx site t spec counts (λ gathered. go (Common gathered))
+gather_common site t (Exists spec) counts go =
+    gather_exists site t spec (reverse_suffix site.family site.domain spec) counts go
+gather_common site t All counts go = go (Common (record { void = false; answers = [] }))
+gather_common site t (Include spec) counts go = go (Common (record { void = false; answers = [] }))
+gather_common site t (Ptr spec) counts go = go (Common (record { void = false; answers = [] }))
+gather_common site t (Ip4 p) counts go = go (Common (record { void = false; answers = [] }))
+gather_common site t (Ip6 p) counts go = go (Common (record { void = false; answers = [] }))
+
+-- RFC 7208, section 5.7: what is gathered for an address: what all have in common, or the answer at its reversed name
+abbrev pub gather_own : Site → ℕ → Hosts → Counts → (Gathered → Run) → Run
+gather_own site t (Common gathered) counts go = go gathered
+gather_own site t (Reversed name) counts go =
+    ask site t counts (reversed_question site.family name) (λ found.
+    go (record { void = false; answers = found ∷ [] }))
+
+-- RFC 7208, section 5: what a mechanism gathers for an address
 abbrev pub gather : Site → ℕ → Mechanism → Counts → (Gathered → Run) → Run
-gather site t (A spec len4 len6) counts go = gather_target site t (kind_in site.family) spec counts go
-gather site t (Mx spec len4 len6) counts go = gather_mx site t spec counts go
-gather site t (Exists spec) counts go = gather_target site t kind.A (Some spec) counts go
-gather site t All counts go = go (record { void = false; answers = [] })
-gather site t (Include spec) counts go = go (record { void = false; answers = [] })
-gather site t (Ptr spec) counts go = go (record { void = false; answers = [] })
-gather site t (Ip4 p) counts go = go (record { void = false; answers = [] })
-gather site t (Ip6 p) counts go = go (record { void = false; answers = [] })
+gather site t mechanism counts go =
+    gather_common site t mechanism counts (λ hosts. gather_own site t hosts counts go)
 
 -- RFC 7208, section 4.6.4: whether some answer of a term was void
 abbrev pub some_void : Gathered → Bool
@@ -294,7 +333,8 @@ abbrev pub judge : Site → Address → Sub → Judge
 judge site a sub t All counts go = go true counts
 judge site a sub t (Ip4 p) counts go = go (covers (net.V4 p) a) counts
 judge site a sub t (Ip6 p) counts go = go (covers (net.V6 p) a) counts
-judge site a sub t (Ptr spec) counts go = counted site t counts (λ counts. Ends (Unsettled cause.Reverse (at site t)) counts)
+judge site a sub t (Ptr spec) counts go =
+    counted site t counts (λ counts. Ends (Unsettled cause.Reverse (at site t)) counts)
 judge site a sub t (Include spec) counts go =
     with_verdict site sub t spec counts (λ verdict. go (is_pass verdict))
 judge site a sub t (A spec len4 len6) counts go = judge_hosts site a t (A spec len4 len6) counts go

@@ -1,12 +1,18 @@
 -- The laws of check_host, as statements.
 use Rattle.std.specs.Prelude.{◌≡◌, ℕ, ◌+◌, ◌<◌, ◌≤◌, ◌↔◌, suc, List, length, Contains}
+use Rattle.addr_bits.specs.Address.{IsAddress, family_of}
 use Rattle.addr_bits.specs.declared.address.Address.{Address}
-use Rattle.spf_model.specs.Judging.{Labels}
+use Rattle.addr_bits.specs.declared.address.Family.{Family}
+use Rattle.spf_model.specs.Judging.{Labels, question_of, reversed_question}
+use Rattle.zone_answers.specs.Zone.{Zone}
+use Rattle.zone_answers.specs.Answers.{answer_of}
+use Rattle.zone_answers.specs.Reversed.{reversed_class}
+use Rattle.zone_answers.specs.declared.answer.QKind.{QKind}
 use Rattle.zone_answers.specs.declared.answer.Question.{Question}
 use Rattle.spf_model.specs.declared.outcome.Limits.{Limits}
 use Rattle.spf_model.specs.declared.outcome.Counts.{Counts}
 use Rattle.spf_model.specs.declared.outcome.Outcome.{Outcome}
-use Rattle.spf_model.specs.Run.{Run, Answering, EndsWith, AsksFor, IsDialogue}
+use Rattle.spf_model.specs.Run.{Run, Answering, AnswerAlike, EndsWith, AsksFor, IsDialogue, says}
 use Rattle.spf_model.specs.Check.{check}
 use Rattle.spf_model.specs.Chains.{IsChain, GivesFlat}
 use Rattle.spf_grammar.specs.declared.flat.FlatTerm.{FlatTerm}
@@ -51,3 +57,14 @@ abbrev pub ChainsGiveFirst : Type 0
 ChainsGiveFirst = (zones : Answering) (limits : Limits) (a : Address) (domain : List ℕ) (name : Labels)
     (lists : List (List FlatTerm))
     → IsChain zones domain name lists → length lists ≤ suc limits.lookups → GivesFlat zones limits a domain name lists
+
+-- two lists of zones answer a question for records of a kind alike where its answers are the same, and one at the
+-- reversed names of a family's addresses where the classes at each of them are
+pub record SaidAlike : Type 0 where
+  pub plain : (zones others : List Zone) (name : Labels) (kind : QKind)
+      → AnswerAlike (says others) (says zones) (question_of kind name)
+      ↔ (answer_of others name kind ≡ answer_of zones name kind)
+  pub reversed : (zones others : List Zone) (name : Labels) (family : Family)
+      → AnswerAlike (says others) (says zones) (reversed_question family name)
+      ↔ ((a : Address) → IsAddress a → family_of a ≡ family
+      → reversed_class others name a ≡ reversed_class zones name a)

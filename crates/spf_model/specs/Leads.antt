@@ -1,7 +1,9 @@
 -- What the parts of an evaluation say of the run that they are a part of (the project's own form), and what a record
 -- has whose terms can be judged. A part is what comes after it, led to a run.
-use Rattle.std.specs.Prelude.{ℕ, ◌≤◌, IsTrue, List, [], ◌∷◌, Option, Some, None, Result, Ok, Err, MatchResult, MatchOption}
+use Rattle.std.specs.Prelude.{◌≡◌, ℕ, ◌≤◌, IsTrue, List, [], ◌∷◌, length, Option, Some, None, Result, Ok, Err}
+use Rattle.std.specs.Prelude.{MatchResult, MatchOption}
 use Rattle.std.specs.List.{list_all}
+use Rattle.dns_name.specs.Wire.{wire_form}
 use Rattle.spf_macros.specs.declared.piece.Piece.{Piece}
 use Rattle.spf_macros.specs.Grammar.{is_for_all}
 use Rattle.spf_grammar.specs.declared.verdict.Verdict.{Verdict}
@@ -10,6 +12,9 @@ use Rattle.spf_grammar.specs.declared.policy.Mechanism.TheVariants.{All, Include
 use Rattle.spf_grammar.specs.declared.policy.Term.{Term}
 use Rattle.spf_grammar.specs.declared.policy.Term.TheVariants.{Directive, Redirect, Exp, Unknown}
 use Rattle.spf_model.specs.declared.context.RecordContext.{RecordContext}
+use Rattle.spf_model.specs.declared.gathered.Gathered.{Gathered}
+use Rattle.spf_model.specs.declared.gathered.Hosts.{Hosts}
+use Rattle.spf_model.specs.declared.gathered.Hosts.TheVariants.{Common, Reversed}
 use Rattle.spf_model.specs.declared.outcome.Cause.TheVariants as cause
 use Rattle.spf_model.specs.declared.outcome.Counts.{Counts}
 use Rattle.spf_model.specs.declared.outcome.Halt.{Halt}
@@ -51,6 +56,10 @@ abbrev pub Halts : {G : Type 0} → Answering → (G → Run) → Halt → Type 
 Halts {G} zones part (Ended outcome) = NoVerdict outcome × ((go : G) → EndsSo zones (part go) outcome)
 Halts {G} zones part Memory = Unit {0}
 
+-- a part that hands its result on
+abbrev pub Hands : {A : Type 0} → Answering → ((A → Run) → Run) → Result A Halt → Type 0
+Hands {A} zones part result = MatchResult result (HandsOn zones part) (Halts zones part)
+
 -- a part that hands the counts on
 abbrev pub Leads : {T : Type 0} → Answering → ((Counts → Run) → Run) → Counts → Result T Halt → Type 0
 Leads zones part counts result = MatchResult result (λ _. HandsOn zones part counts) (Halts zones part)
@@ -89,6 +98,22 @@ IsTried zones part counts result =
     MatchResult result (λ found. MatchOption found (HandsOn zones part counts)
     (λ verdict. (go : Counts → Run) → EndsWith zones (part go) (Is verdict) counts))
     (Halts zones part)
+
+-- RFC 1035, section 2.3.4: a name below which the reversed name of each address is no longer than a name may be
+abbrev pub IsShort : Hosts → Type 0
+IsShort (Common gathered) = Unit {0}
+IsShort (Reversed name) = length (wire_form name) ≤ 191
+
+-- what was gathered, as what all addresses of a family have in common
+abbrev pub common_of : Result Gathered Halt → Result Hosts Halt
+common_of (Ok gathered) = Ok (Common gathered)
+common_of (Err halt) = Err halt
+
+-- RFC 7208, section 5.7: only an `exists` asks at reversed names, and below such a name
+abbrev pub HostsFit : Mechanism → Hosts → Type 0
+HostsFit mechanism (Common gathered) = Unit {0}
+HostsFit mechanism (Reversed name) =
+    (spec : List Piece) × (mechanism ≡ Exists spec) × (length (wire_form name) ≤ 191)
 
 -- ---- terms that can be judged
 

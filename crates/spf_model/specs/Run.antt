@@ -2,10 +2,20 @@
 -- with its policy (the project's own form; it says once what is asked and what is answered, for the outcome and for the
 -- questions).
 use Rattle.std.specs.Prelude.{◌≡◌, ℕ, List, [], ◌∷◌, ◌⊎◌, Option}
+use Rattle.addr_bits.specs.Address.{IsAddress}
+use Rattle.addr_bits.specs.declared.address.Address.{Address}
+use Rattle.addr_bits.specs.declared.address.Address.TheVariants.{V4, V6}
+use Rattle.zone_answers.specs.declared.answer.QKind.TheVariants as kind
 use Rattle.zone_answers.specs.declared.answer.Question.{Question}
 use Rattle.zone_answers.specs.declared.answer.Answer.{Answer}
+use Rattle.zone_answers.specs.declared.answer.Answer.TheVariants.{Outside, NoName, Loop, Found}
+use Rattle.zone_answers.specs.declared.ask_kind.AskKind.{AskKind}
+use Rattle.zone_answers.specs.declared.ask_kind.AskKind.TheVariants.{A, Aaaa, Mx, Txt, Reverse4, Reverse6}
+use Rattle.zone_answers.specs.declared.class.Class.{Class}
+use Rattle.zone_answers.specs.declared.class.Class.TheVariants.{Hit, Void, Beyond, Round}
 use Rattle.zone_answers.specs.Zone.{Zone}
 use Rattle.zone_answers.specs.Answers.{answer_of}
+use Rattle.zone_answers.specs.Reversed.{reversed_class}
 use Rattle.spf_grammar.specs.declared.policy.Policy.{Policy}
 use Rattle.spf_grammar.specs.Grammar.{ReadAs}
 use Rattle.spf_model.specs.declared.outcome.Counts.{Counts}
@@ -27,9 +37,37 @@ then_do (Reads text next) go = Reads text (λ policy. then_do (next policy) go)
 abbrev pub Answering : Type 0
 Answering = Question → Answer
 
--- RFC 1034, section 4.3.2: what the lent zones say to a question
-unfoldable pub says : List Zone → Answering
-says zones question = answer_of zones question.name question.kind
+-- what is said to each question for each address
+abbrev pub AnsweringEach : Type 0
+AnsweringEach = Address → Answering
+
+-- project's own choice: of the answer at a reversed name only the class is heard
+abbrev pub heard : Class → Answer
+heard Hit = Found []
+heard Void = NoName
+heard Beyond = Outside
+heard Round = Loop
+
+-- RFC 1034, section 4.3.2: what the lent zones say at a name to a question of a kind, for an address. A question for
+-- records of a kind is answered alike for all addresses; one at the reversed names of a family's addresses by the class
+-- at the address's own (RFC 7208, section 5.7), and never asked for one of the other family
+abbrev pub said : List Zone → List (List ℕ) → Address → AskKind → Answer
+said zones name a A = answer_of zones name kind.A
+said zones name a Aaaa = answer_of zones name kind.Aaaa
+said zones name a Mx = answer_of zones name kind.Mx
+said zones name a Txt = answer_of zones name kind.Txt
+said zones name (V4 a) Reverse4 = heard (reversed_class zones name (V4 a))
+said zones name (V6 a) Reverse4 = Outside
+said zones name (V4 a) Reverse6 = Outside
+said zones name (V6 a) Reverse6 = heard (reversed_class zones name (V6 a))
+
+-- RFC 1034, section 4.3.2: what the lent zones say to a question for an address
+unfoldable pub says : List Zone → AnsweringEach
+says zones a question = said zones question.name a question.kind
+
+-- the question is answered alike for every address
+abbrev pub AnswerAlike : AnsweringEach → AnsweringEach → Question → Type 0
+AnswerAlike others zones question = (a : Address) → IsAddress a → others a question ≡ zones a question
 
 -- the run ends with this outcome and these counts, where the zones answer and the grammar reads
 abbrev pub EndsWith : Answering → Run → Outcome → Counts → Type 0

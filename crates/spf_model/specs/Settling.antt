@@ -1,12 +1,13 @@
 -- The parts of a term that every address of a family has alike: they ask, and hand on a result or end (the project's
 -- own form).
 use Rattle.std.specs.Prelude.{List, Contains, ◌⊎◌, ◌↔◌, Result, Ok, Err}
+use Rattle.addr_bits.specs.declared.address.Address.{Address}
 use Rattle.zone_answers.specs.declared.answer.Question.{Question}
 use Rattle.spf_model.specs.declared.outcome.Counts.{Counts}
 use Rattle.spf_model.specs.declared.outcome.Outcome.{Outcome}
 use Rattle.spf_model.specs.declared.outcome.Halt.{Halt}
 use Rattle.spf_model.specs.declared.outcome.Halt.TheVariants.{Ended, Memory}
-use Rattle.spf_model.specs.Run.{Run, Ends, Answering, EndsWith, AsksFor}
+use Rattle.spf_model.specs.Run.{Run, Ends, Answering, AnsweringEach, EndsWith, AsksFor}
 use Rattle.spf_model.specs.Leads.{NoVerdict}
 
 -- what is left of a run: it ends as the run does, it asks nothing else, and what the run asks before it was asked
@@ -41,3 +42,7 @@ abbrev pub Settles : {A : Type 0} → Answering → PartOf A → List Question �
 Settles {A} zones part asked more (Ok x) = Passes zones more part x × Adds zones part asked more
 Settles {A} zones part asked more (Err (Ended outcome)) = Stops zones more part outcome × Adds zones part asked more
 Settles {A} zones part asked more (Err Memory) = Unit {0}
+
+-- the same for every address
+abbrev pub SettlesEach : {A : Type 0} → AnsweringEach → PartOf A → List Question → List Question → Result A Halt → Type 0
+SettlesEach zones part asked more result = (a : Address) → Settles (zones a) part asked more result

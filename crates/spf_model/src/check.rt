@@ -61,7 +61,7 @@ impl Frame<'_> {
         requires family { self.now.context.family ≡ family_of self.now.address }
         requires target { TargetFits (Some spec.now) }
         ensures judged { (depth : ℕ) → self.now.context.limits.lookups ≤ depth + counts.old.lookups
-            → IsJudged (says self.now.context.zones.now)
+            → IsJudged (says self.now.context.zones.now self.now.address)
             (judging.with_verdict (site_of self.now.context)
             (checking.check self.now.context.limits self.now.address depth)
             term spec.now counts.old) counts.new result }
@@ -87,7 +87,7 @@ impl Frame<'_> {
         requires family { self.now.context.family ≡ family_of self.now.address }
         requires fits { MechanismFits mechanism.now }
         ensures judged { (depth : ℕ) → self.now.context.limits.lookups ≤ depth + counts.old.lookups
-            → IsJudged (says self.now.context.zones.now)
+            → IsJudged (says self.now.context.zones.now self.now.address)
             (judging.judge (site_of self.now.context) self.now.address
             (checking.check self.now.context.limits self.now.address depth)
             term mechanism.now counts.old) counts.new result }
@@ -119,7 +119,7 @@ impl Frame<'_> {
         requires family { self.now.context.family ≡ family_of self.now.address }
         requires fits { TermFits term.now }
         ensures tried { (depth : ℕ) → self.now.context.limits.lookups ≤ depth + counts.old.lookups
-            → IsTried (says self.now.context.zones.now)
+            → IsTried (says self.now.context.zones.now self.now.address)
             (checking.trying (judging.judge (site_of self.now.context) self.now.address
             (checking.check self.now.context.limits self.now.address depth))
             number term.now counts.old) counts.new result }
@@ -141,7 +141,7 @@ impl Frame<'_> {
         requires family { self.now.context.family ≡ family_of self.now.address }
         requires fit { TermsFit terms.now }
         ensures tried { (depth : ℕ) → self.now.context.limits.lookups ≤ depth + counts.old.lookups
-            → IsTried (says self.now.context.zones.now)
+            → IsTried (says self.now.context.zones.now self.now.address)
             (checking.tried (judging.judge (site_of self.now.context) self.now.address
             (checking.check self.now.context.limits self.now.address depth)) 1 terms.now counts.old) counts.new result }
         ensures grows { counts.old.lookups ≤ counts.new.lookups }
@@ -162,7 +162,7 @@ impl Frame<'_> {
         requires family { self.now.context.family ≡ family_of self.now.address }
         requires within { counts.old.lookups ≤ self.now.context.limits.lookups }
         ensures judged { (depth : ℕ) → self.now.context.limits.lookups < depth + counts.old.lookups
-            → IsVerdictOf (says self.now.context.zones.now)
+            → IsVerdictOf (says self.now.context.zones.now self.now.address)
             (checking.check self.now.context.limits self.now.address depth
             self.now.context.domain.now self.now.context.name.now counts.old) counts.new result }
         ensures grows { counts.old.lookups ≤ counts.new.lookups }

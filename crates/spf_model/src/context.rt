@@ -4,11 +4,12 @@ ghost use Rattle.std.specs.Prelude.{◌≡◌, ◌++◌, [], ◌∷◌, List, If
 ghost use Rattle.spf_model.specs.Run.{says};
 ghost use Rattle.spf_model.specs.Judging as judging;
 ghost use Rattle.spf_model.specs.Leads.{site_of, TargetFits};
-ghost use Rattle.spf_model.specs.Settling.{Settles};
+ghost use Rattle.spf_model.specs.Settling.{SettlesEach};
 ghost use Rattle.spf_model.specs.declared.outcome.Halt.TheVariants.{Ended};
 ghost use Rattle.spf_model.specs.declared.outcome.Outcome.TheVariants as outcome;
 ghost use Rattle.spf_model.specs.declared.outcome.Cause.TheVariants as cause;
 ghost use Rattle.zone_answers.specs.declared.answer.Question.{Question as Asked};
+ghost use Rattle.addr_bits.specs.declared.address.Address.{Address as Told};
 
 use crate::outcome::Halt;
 use crate::{Cause, Limits, Outcome, Place};
@@ -16,7 +17,7 @@ use addr_bits::{Bytes, Family};
 use dns_name::Name;
 use spf_macros::{Expanded, MacroText, Need, target};
 use std::alloc::{AllocError, Global};
-use zone_answers::{Answer, QKind, Question, Questions, Zones};
+use zone_answers::{Answer, AskKind, QKind, Question, Questions, Zones};
 
 /// What the terms of a record are judged by, for every address of a family. What its methods ask is noted in `asked`.
 #[derive(Clone, Copy)]
@@ -36,7 +37,7 @@ pub struct RecordContext<'a> {
 }
 
 /// The cause of what an expansion needs.
-fn cause_of(need: Need) -> Cause
+pub(crate) fn cause_of(need: Need) -> Cause
     ensures { result ≡ judging.cause_of need }
 {
     match need {
@@ -98,7 +99,7 @@ impl RecordContext<'_> {
     /// none.
     fn target_text(&self, term: u32, spec: Option<&MacroText>) -> Result<Bytes, Halt>
         requires { TargetFits (option_map (λ s. s.now) spec) }
-        ensures { (asked : List Asked) → Settles (says self.now.zones.now)
+        ensures { (asked : List Asked) → SettlesEach (says self.now.zones.now)
             (λ counts. judging.with_target (site_of self.now) term counts
             (option_map (λ s. s.now) spec.entry)) asked asked result }
     {
@@ -117,7 +118,7 @@ impl RecordContext<'_> {
     /// It asks nothing.
     pub(crate) fn host_name(&self, term: u32, spec: Option<&MacroText>) -> Result<Name, Halt>
         requires { TargetFits (option_map (λ s. s.now) spec) }
-        ensures { (asked : List Asked) → Settles (says self.now.zones.now)
+        ensures { (asked : List Asked) → SettlesEach (says self.now.zones.now)
             (judging.naming (site_of self.now) term (option_map (λ s. s.now) spec.entry)) asked asked result }
     {
         let text = self.target_text(term, spec)?;
@@ -132,7 +133,7 @@ impl RecordContext<'_> {
     /// memory.
     pub fn target(&self, term: u32, spec: &MacroText) -> Result<(Bytes, Name), Halt>
         requires { TargetFits (Some spec.now) }
-        ensures { (asked : List Asked) → Settles (says self.now.zones.now)
+        ensures { (asked : List Asked) → SettlesEach (says self.now.zones.now)
             (judging.naming_target (site_of self.now) term spec.now) asked asked result }
     {
         let text = self.target_text(term, Some(spec))?;
@@ -143,20 +144,19 @@ impl RecordContext<'_> {
     }
 
     /// The answer of the zones to a question, which is noted.
-    #[tactic(auto, unfolding(crate::specs::Run::says))]
     pub(crate) fn answer(
         &self,
         name: &Name,
         kind: QKind,
         asked: &mut Questions,
     ) -> Result<Answer, AllocError>
-        ensures answer { IfOk result (λ answer. answer ≡ says self.now.zones.now
-            (record { name = name.now; kind = kind })) }
-        ensures noted { OnOk result (asked.new ≡ asked.old ++ (record { name = name.now; kind = kind }) ∷ []) }
+        ensures answer { IfOk result (λ answer. (a : Told) → answer ≡ says self.now.zones.now a
+            (judging.question_of kind name.now)) }
+        ensures noted { OnOk result (asked.new ≡ asked.old ++ (judging.question_of kind name.now) ∷ []) }
     {
         let question = Question {
             name: name.clone()?,
-            kind,
+            kind: AskKind::of(kind),
         };
         asked.push(question)?;
         self.zones.answer(name, kind)
@@ -171,9 +171,9 @@ impl RecordContext<'_> {
         kind: QKind,
         asked: &mut Questions,
     ) -> Result<Answer, Halt>
-        ensures { Settles (says self.now.zones.now)
+        ensures { SettlesEach (says self.now.zones.now)
             (λ counts. judging.ask (site_of self.now) term counts
-            (record { name = name.now; kind = kind })) asked.old asked.new result }
+            (judging.question_of kind name.now)) asked.old asked.new result }
     {
         match self.answer(name, kind, asked)? {
             Answer::Outside => Err(self.open(Cause::Outside, term)),

@@ -6,6 +6,7 @@ ghost use Rattle.spf_model.specs.Judging as judging;
 ghost use Rattle.spf_model.specs.Leads.{MechanismFits};
 
 use addr_bits::{Address, Family, Items, Prefix};
+use dns_name::Name;
 use master_reader::Body;
 use spf_grammar::Mechanism;
 use zone_answers::Answer;
@@ -38,6 +39,15 @@ pub struct Gathered {
     pub void: bool,
     /// The answers of the hosts, in order.
     pub answers: Items<Answer>,
+}
+
+/// What a term that asks for hosts gathers for every address of a family alike.
+#[derive(Drop)]
+pub enum Hosts {
+    /// All answers: what every address gathers.
+    Common(Gathered),
+    /// The name below which each address asks at its reversed name (RFC 7208, section 5.7).
+    Reversed(Name),
 }
 
 /// Whether there is no such name or no such record (RFC 7208, section 4.6.4).

@@ -1,21 +1,29 @@
 //! The answers that a term gathers before they are judged (RFC 7208, sections 5.3, 5.4 and 5.7).
-ghost use Rattle.std.specs.Prelude.{◌≡◌, IfOk, Some, map, filter_map, option_map};
+ghost use Rattle.std.specs.Prelude.{◌≡◌, ◌≤◌, List, IfOk, Some, length, map, filter_map, option_map};
+ghost use Rattle.dns_name.specs.Wire.{wire_form};
+ghost use Rattle.zone_answers.specs.declared.answer.Question.{Question as Asked};
+ghost use Rattle.spf_macros.specs.Reversed.{reverse_suffix};
 ghost use Rattle.spf_model.specs.Run.{says};
 ghost use Rattle.spf_model.specs.Judging as judging;
-ghost use Rattle.spf_model.specs.Leads.{site_of, MechanismFits, TargetFits};
-ghost use Rattle.spf_model.specs.Settling.{Settles};
+ghost use Rattle.spf_model.specs.Leads.{common_of, site_of, HostsFit, MechanismFits, TargetFits};
+ghost use Rattle.spf_grammar.specs.declared.policy.Mechanism.TheVariants as mechanism;
+ghost use Rattle.spf_model.specs.Settling.{SettlesEach};
 
 use crate::Cause;
-use crate::context::RecordContext;
-use crate::gathered::{Gathered, is_void};
+use crate::context::{RecordContext, cause_of, name_of};
+use crate::gathered::{Gathered, Hosts, is_void};
 use crate::outcome::Halt;
 use addr_bits::Items;
 use dns_name::Name;
 use master_reader::Body;
 use spf_grammar::Mechanism;
-use spf_macros::MacroText;
+use spf_macros::{Expanded, MacroText, reverse_suffix};
 use std::alloc::{AllocError, Global};
 use zone_answers::{Answer, QKind, Questions};
+
+/// The most characters of the text below which reversed names are asked for: behind the 63 characters of a reversed IPv6
+/// address and a dot, no name has more (RFC 1035, section 2.3.4, and RFC 3596, section 2.5).
+const MAX_SUFFIX_TEXT: usize = 189;
 
 /// The exchange of an MX record, unless that is the root (RFC 7505, section 3).
 fn exchange_of(body: &Body) -> Option<&Name>
@@ -41,6 +49,16 @@ fn exchanges_of(alloc: Global, bodies: &[Body]) -> Result<Vec<&Name>, AllocError
     Ok(exchanges)
 }
 
+/// What all addresses of a family have in common.
+fn in_common(gathered: Result<Gathered, Halt>) -> Result<Hosts, Halt>
+    ensures { result ≡ common_of gathered }
+{
+    match gathered {
+        Ok(gathered) => Ok(Hosts::Common(gathered)),
+        Err(halt) => Err(halt),
+    }
+}
+
 impl RecordContext<'_> {
     /// Gathers the answers of these hosts. `void` says whether the answer that named them was void.
     fn gather_hosts(
@@ -51,7 +69,7 @@ impl RecordContext<'_> {
         hosts: &[&Name],
         asked: &mut Questions,
     ) -> Result<Gathered, Halt>
-        ensures { Settles (says self.now.zones.now)
+        ensures { SettlesEach (says self.now.zones.now)
             (judging.gather_hosts (site_of self.now) term kind void
             (map (λ name. name.now) hosts.now)) asked.old asked.new result }
     {
@@ -72,7 +90,7 @@ impl RecordContext<'_> {
         asked: &mut Questions,
     ) -> Result<Gathered, Halt>
         requires { TargetFits (option_map (λ s. s.now) spec) }
-        ensures { Settles (says self.now.zones.now)
+        ensures { SettlesEach (says self.now.zones.now)
             (judging.gather_target (site_of self.now) term kind
             (option_map (λ s. s.now) spec.entry)) asked.old asked.new result }
     {
@@ -88,7 +106,7 @@ impl RecordContext<'_> {
         found: &Answer,
         asked: &mut Questions,
     ) -> Result<Gathered, Halt>
-        ensures { Settles (says self.now.zones.now)
+        ensures { SettlesEach (says self.now.zones.now)
             (judging.gather_exchanges (site_of self.now) term found.now) asked.old asked.new result }
     {
         let exchanges = exchanges_of(self.alloc, found.bodies())?;
@@ -108,7 +126,7 @@ impl RecordContext<'_> {
         asked: &mut Questions,
     ) -> Result<Gathered, Halt>
         requires { TargetFits (option_map (λ s. s.now) spec) }
-        ensures { Settles (says self.now.zones.now)
+        ensures { SettlesEach (says self.now.zones.now)
             (judging.gather_mx (site_of self.now) term
             (option_map (λ s. s.now) spec.entry)) asked.old asked.new result }
     {
@@ -117,30 +135,73 @@ impl RecordContext<'_> {
         self.gather_exchanges(term, &found, asked)
     }
 
-    /// What a mechanism gathers, once its lookup is counted: `a` and `mx` ask for addresses of the family (RFC 7208,
-    /// sections 5.3 and 5.4), and `exists` for those of IPv4 (section 5.7). No other mechanism asks for hosts. Each
-    /// question is noted. `Halt::Memory` where there is no memory.
+    /// The name below which an `exists` asks whose text begins with the reversed address and a dot (RFC 7208, sections
+    /// 5.7 and 7.3). It asks nothing.
+    fn suffix_name(&self, term: u32, suffix: Expanded) -> Result<Name, Halt>
+        ensures named { (asked : List Asked) → SettlesEach (says self.now.zones.now)
+            (judging.naming_suffix (site_of self.now) term suffix) asked asked result }
+        ensures short { IfOk result (λ name. length (wire_form name) ≤ 191) }
+    {
+        let text = match suffix {
+            Expanded::Out(text) => text,
+            Expanded::Needs(need) => return Err(self.open(cause_of(need), term)),
+        };
+        if text.len() > MAX_SUFFIX_TEXT {
+            return Err(self.open(Cause::Address, term));
+        }
+        match name_of(text.as_slice()) {
+            Some(name) => Ok(name),
+            None => Err(self.open(Cause::Target, term)),
+        }
+    }
+
+    /// Gathers the answer of an `exists` at its target, or finds the name below which each address asks (RFC 7208,
+    /// section 5.7).
+    fn gather_exists(
+        &self,
+        term: u32,
+        spec: &MacroText,
+        asked: &mut Questions,
+    ) -> Result<Hosts, Halt>
+        requires { TargetFits (Some spec.now) }
+        ensures gathered { SettlesEach (says self.now.zones.now)
+            (judging.gather_exists (site_of self.now) term spec.now
+            (reverse_suffix self.now.family self.now.domain.now spec.now)) asked.old asked.new result }
+        ensures fit { IfOk result (HostsFit (mechanism.Exists spec.now)) }
+    {
+        if let Some(suffix) = reverse_suffix(self.alloc, spec, self.family, self.domain)? {
+            let name = self.suffix_name(term, suffix)?;
+            return Ok(Hosts::Reversed(name));
+        }
+        in_common(self.gather_target(term, QKind::A, Some(spec), asked))
+    }
+
+    /// What a mechanism gathers for every address of the family alike, once its lookup is counted: `a` and `mx` ask for
+    /// addresses of the family (RFC 7208, sections 5.3 and 5.4), and `exists` for those of IPv4 (section 5.7), at its
+    /// target or at reversed names, whose question is not noted. No other mechanism asks for hosts. Each other question
+    /// is noted. `Halt::Memory` where there is no memory.
     pub fn gather(
         &self,
         term: u32,
         mechanism: &Mechanism,
         asked: &mut Questions,
-    ) -> Result<Gathered, Halt>
+    ) -> Result<Hosts, Halt>
         requires { MechanismFits mechanism.now }
-        ensures { Settles (says self.now.zones.now)
-            (judging.gather (site_of self.now) term mechanism.now) asked.old asked.new result }
+        ensures gathered { SettlesEach (says self.now.zones.now)
+            (judging.gather_common (site_of self.now) term mechanism.now) asked.old asked.new result }
+        ensures fit { IfOk result (HostsFit mechanism.now) }
     {
         match mechanism {
             Mechanism::A(spec, _, _) => {
                 let kind = QKind::of_addresses(self.family);
-                self.gather_target(term, kind, spec.as_ref(), asked)
+                in_common(self.gather_target(term, kind, spec.as_ref(), asked))
             }
-            Mechanism::Mx(spec, _, _) => self.gather_mx(term, spec.as_ref(), asked),
-            Mechanism::Exists(spec) => self.gather_target(term, QKind::A, Some(spec), asked),
-            _ => Ok(Gathered {
+            Mechanism::Mx(spec, _, _) => in_common(self.gather_mx(term, spec.as_ref(), asked)),
+            Mechanism::Exists(spec) => self.gather_exists(term, spec, asked),
+            _ => Ok(Hosts::Common(Gathered {
                 void: false,
                 answers: Items::new(self.alloc),
-            }),
+            })),
         }
     }
 }

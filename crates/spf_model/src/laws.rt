@@ -1,5 +1,5 @@
 //! What holds of every evaluation. The functions do nothing: what they promise is the law.
-ghost use Rattle.spf_model.specs.Laws.{ChainsGiveFirst, DepthSuffices, OneEnd, RestsOnItsQuestions};
+ghost use Rattle.spf_model.specs.Laws.{ChainsGiveFirst, DepthSuffices, OneEnd, RestsOnItsQuestions, SaidAlike};
 
 /// An evaluation has one list of questions, in one order, and one outcome with its counts, and none has none (RFC 7208,
 /// section 4).
@@ -21,4 +21,10 @@ pub fn depth_suffices()
 /// all its terms that has it, with fewer lookups than records and no void (RFC 7208, section 6.1).
 pub fn chains_give_first()
     ensures { ChainsGiveFirst }
+{}
+
+/// Two lists of zones answer a question alike for every address where its answers are the same, and one at reversed
+/// names where the classes at all of them are.
+pub fn said_alike()
+    ensures { SaidAlike }
 {}

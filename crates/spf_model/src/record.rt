@@ -4,7 +4,7 @@ ghost use Rattle.std.specs.List.{concat};
 ghost use Rattle.spf_model.specs.Run.{says};
 ghost use Rattle.spf_model.specs.Check as check;
 ghost use Rattle.spf_model.specs.Leads.{TermsFit};
-ghost use Rattle.spf_model.specs.Settling.{Settles};
+ghost use Rattle.spf_model.specs.Settling.{SettlesEach};
 ghost use Rattle.zone_answers.specs.declared.answer.Question.{Question as Asked};
 
 use crate::Cause;
@@ -58,7 +58,7 @@ pub fn spf_texts(alloc: Global, bodies: &[Body]) -> Result<Text, AllocError>
 impl RecordContext<'_> {
     /// The terms of a record (RFC 7208, section 4.6).
     fn read_record(&self, text: &[u8]) -> Result<Terms, Halt>
-        ensures read { (asked : List Asked) → Settles (says self.now.zones.now)
+        ensures read { (asked : List Asked) → SettlesEach (says self.now.zones.now)
             (λ counts. check.with_texts self.now.name.now counts (text.now ∷ [])) asked asked result }
         ensures fit { IfOk result TermsFit }
     {
@@ -70,7 +70,7 @@ impl RecordContext<'_> {
 
     /// The terms of the one record that has an SPF text (RFC 7208, section 4.5).
     fn choose_record(&self, bodies: &[Body]) -> Result<Terms, Halt>
-        ensures chosen { (asked : List Asked) → Settles (says self.now.zones.now)
+        ensures chosen { (asked : List Asked) → SettlesEach (says self.now.zones.now)
             (λ counts. check.with_texts self.now.name.now counts
             (filter_map check.spf_text_of bodies.now)) asked asked result }
         ensures fit { IfOk result TermsFit }
@@ -86,7 +86,7 @@ impl RecordContext<'_> {
     /// The terms of the record at the domain, which has two or more labels (RFC 7208, sections 4.3 to 4.6).
     /// `Halt::Memory` where there is no memory.
     pub fn find_record(&self, asked: &mut Questions) -> Result<Terms, Halt>
-        ensures found { Settles (says self.now.zones.now)
+        ensures found { SettlesEach (says self.now.zones.now)
             (check.with_record self.now.name.now) asked.old asked.new result }
         ensures fit { IfOk result TermsFit }
     {

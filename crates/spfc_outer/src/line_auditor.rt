@@ -65,7 +65,7 @@ fn write_line<S: Sink>(sink: &mut S, question: &Question) -> Result<(), Failed>
     ensures part { OnErr result (AppendsPart (S.seen sink.old).bytes (S.seen sink.new).bytes (asked_line question.now)) }
     ensures cause { HasCause (S.seen sink.old).faults (S.seen sink.new).faults result }
 {
-    let mut line: ArrayVec<u8, 1032> = ArrayVec::new();
+    let mut line: ArrayVec<u8, 1036> = ArrayVec::new();
     line.try_extend_from_slice(b"asked ").unwrap();
     line.try_extend_from_slice(&question.text()).unwrap();
     line.push(b'\n');

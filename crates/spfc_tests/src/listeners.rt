@@ -6,7 +6,7 @@ use spfc_outer::{Auditor, Keep, KeepAuditor, LineAuditor, MemFiles, MemSink, Sin
 use spfc_top::run;
 use std::alloc::{AllocError, Global};
 use std::test::Fail;
-use zone_answers::{QKind, Question};
+use zone_answers::{AskKind, Question};
 
 /// A policy that asks five questions: for the record, and for each host in each family.
 const TWO_HOSTS: &str = "@ IN TXT \"v=spf1 a:h1.example.com a:h2.example.com -all\"\n\
@@ -99,7 +99,7 @@ fn a_listener_that_cannot_write_leaves(rt: HostRuntime) -> Result<(), Fail> {
 }
 
 /// What a listener is asked to take.
-fn question(name: &[u8], kind: QKind) -> Result<Question, Fail> {
+fn question(name: &[u8], kind: AskKind) -> Result<Question, Fail> {
     Ok(Question {
         name: Name::from_text(name)?,
         kind,
@@ -109,13 +109,13 @@ fn question(name: &[u8], kind: QKind) -> Result<Question, Fail> {
 #[test]
 fn what_was_heard_is_told(rt: HostRuntime) -> Result<(), Fail> {
     let mut auditor = KeepAuditor::new(rt.alloc(), Some(2));
-    assert!(rt; auditor.tell(&question(b"a.example", QKind::Mx)?)? == Keep::Go);
-    assert!(rt; auditor.tell(&question(b"b.example", QKind::Txt)?)? == Keep::Done);
-    assert!(rt; auditor.tell(&question(b"c.example", QKind::A)?)? == Keep::Go);
+    assert!(rt; auditor.tell(&question(b"a.example", AskKind::Mx)?)? == Keep::Go);
+    assert!(rt; auditor.tell(&question(b"b.example", AskKind::Txt)?)? == Keep::Done);
+    assert!(rt; auditor.tell(&question(b"c.example", AskKind::A)?)? == Keep::Go);
     let heard = auditor.heard();
     assert!(rt; heard.len() == 3);
     let first = &heard.as_slice()[0];
     assert!(rt; first.name == Name::from_text(b"a.example")?);
-    assert!(rt; first.kind == QKind::Mx);
+    assert!(rt; first.kind == AskKind::Mx);
     Ok(())
 }

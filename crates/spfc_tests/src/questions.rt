@@ -6,7 +6,7 @@ use spf_model::Limits;
 use std::alloc::{AllocError, Global};
 use std::test::Fail;
 use symbolic_check::evaluate;
-use zone_answers::{QKind, Question, Zones, are_lendable};
+use zone_answers::{AskKind, Question, Zones, are_lendable};
 
 /// The limits of a mail receiver (RFC 7208, section 4.6.4).
 const RECEIVER: Limits = Limits {
@@ -21,19 +21,19 @@ const ZONE: &[u8] =
     h1 A 192.0.2.1\nh1 AAAA ::1\n";
 
 // The questions in order.
-const ASKED: [(&str, QKind); 5] = [
-    ("example.com", QKind::Txt),
-    ("h1.example.com", QKind::A),
-    ("h1.example.com", QKind::Aaaa),
-    ("in-addr.h2.example.com", QKind::A),
-    ("ip6.h2.example.com", QKind::A),
+const ASKED: [(&str, AskKind); 5] = [
+    ("example.com", AskKind::Txt),
+    ("h1.example.com", AskKind::A),
+    ("h1.example.com", AskKind::Aaaa),
+    ("in-addr.h2.example.com", AskKind::A),
+    ("ip6.h2.example.com", AskKind::A),
 ];
 
 fn is_question(
     alloc: Global,
     question: &Question,
     name: &str,
-    kind: QKind,
+    kind: AskKind,
 ) -> Result<bool, AllocError> {
     let printed = question.name.write_text(alloc)?;
     Ok(printed.as_slice() == name.as_bytes() && question.kind == kind)

@@ -9,8 +9,10 @@ use Rattle.job_compile.specs.Meaning.{meaning_of_compile}
 use Rattle.job_compile.specs.Words.{SpellsCompile}
 use Rattle.job_deps.specs.Meaning.{meaning_of_deps}
 use Rattle.job_deps.specs.Words.{SpellsDeps}
+use Rattle.job_join.specs.Meaning.{meaning_of_join}
+use Rattle.job_join.specs.Words.{SpellsJoin}
 use Rattle.spfc_top.specs.declared.any_job.AnyJob.{AnyJob}
-use Rattle.spfc_top.specs.declared.any_job.AnyJob.TheVariants.{Check, Compile, Deps, Verify, Trial, Compare}
+use Rattle.spfc_top.specs.declared.any_job.AnyJob.TheVariants.{Check, Compile, Deps, Verify, Trial, Compare, Join}
 use Rattle.job_verify.specs.Meaning.{meaning_of_verify}
 use Rattle.job_verify.specs.Words.{SpellsVerify}
 use Rattle.job_trial.specs.Meaning.{meaning_of_trial}
@@ -24,6 +26,7 @@ command_of (Deps job) = codes "deps"
 command_of (Verify job) = codes "verify"
 command_of (Trial job) = codes "trial"
 command_of (Compare job) = codes "compare"
+command_of (Join job) = codes "join"
 
 -- the words behind the command
 abbrev pub SpellsBehind : List (List ℕ) → AnyJob → Type 0
@@ -33,6 +36,7 @@ SpellsBehind words (Deps job) = SpellsDeps words job
 SpellsBehind words (Verify job) = SpellsVerify words job
 SpellsBehind words (Trial job) = SpellsTrial words job
 SpellsBehind words (Compare job) = SpellsCompare words job
+SpellsBehind words (Join job) = SpellsJoin words job
 
 -- the words spell the job
 abbrev pub SpellsAny : List (List ℕ) → AnyJob → Type 0
@@ -47,6 +51,7 @@ meaning_of (Deps job) = meaning_of_deps job
 meaning_of (Verify job) = meaning_of_verify job
 meaning_of (Trial job) = meaning_of_trial job
 meaning_of (Compare job) = meaning_of_compare job
+meaning_of (Join job) = meaning_of_join job
 
 -- all jobs
 abbrev pub jobs : Program

@@ -8,6 +8,7 @@ use job_check::Check;
 use job_compare::Compare;
 use job_compile::Compile;
 use job_deps::Deps;
+use job_join::Join;
 use job_trial::Trial;
 use job_verify::Verify;
 use jobs::{Job, Output};
@@ -30,6 +31,8 @@ pub enum AnyJob {
     Trial(Trial),
     /// `compare DOMAIN DOMAIN READING ORIGIN=FILE.. with ORIGIN=FILE..`
     Compare(Compare),
+    /// `join DOMAIN DOMAIN.. OPTIONS ORIGIN=FILE..`
+    Join(Join),
 }
 
 /// The job that the words after the program's name spell; `None` exactly where they spell none.
@@ -65,6 +68,7 @@ impl Job for AnyJob {
             "verify" => Ok(Verify::read(alloc, rest)?.map(AnyJob::Verify)),
             "trial" => Ok(Trial::read(alloc, rest)?.map(AnyJob::Trial)),
             "compare" => Ok(Compare::read(alloc, rest)?.map(AnyJob::Compare)),
+            "join" => Ok(Join::read(alloc, rest)?.map(AnyJob::Join)),
             _ => Ok(None),
         }
     }
@@ -77,6 +81,7 @@ impl Job for AnyJob {
             AnyJob::Verify(job) => job.inputs(),
             AnyJob::Trial(job) => job.inputs(),
             AnyJob::Compare(job) => job.inputs(),
+            AnyJob::Join(job) => job.inputs(),
         }
     }
 
@@ -88,6 +93,7 @@ impl Job for AnyJob {
             AnyJob::Verify(job) => job.perform(alloc, loaded),
             AnyJob::Trial(job) => job.perform(alloc, loaded),
             AnyJob::Compare(job) => job.perform(alloc, loaded),
+            AnyJob::Join(job) => job.perform(alloc, loaded),
         }
     }
 }

@@ -13,7 +13,7 @@ use Rattle.spf_model.specs.declared.outcome.Outcome.{Outcome}
 use Rattle.spf_model.specs.Check.{check_host}
 use Rattle.spf_model.specs.Judging.{Labels, legal, name_of}
 use Rattle.spf_model.specs.Result.{Gives, AskedFor, IsAsked, IsInOrder}
-use Rattle.spf_model.specs.Run.{Answering, EndsWith, AsksFor}
+use Rattle.spf_model.specs.Run.{AnsweringEach, EndsWith, AsksFor}
 use Rattle.symbolic_check.specs.Evaluation.{IsEvaluation}
 use Rattle.symbolic_check.specs.Families.{AreEndsOf}
 
@@ -25,24 +25,24 @@ named domain name e = ap legal e
 same_name : {a b : Labels} → Some a ≡ Some b → a ≡ b
 same_name e = cc
 
-given : (zones : Answering) (limits : Limits) (domain : List ℕ) (name : Labels) (a : Address) → name_of domain ≡ Some name → (end : Option Outcome)
-    → IsSomeAnd end (λ outcome. (counts : Counts) × EndsWith zones (check_host limits a domain name) outcome counts) → IsSomeAnd end (Gives zones limits domain a)
+given : (zones : AnsweringEach) (limits : Limits) (domain : List ℕ) (name : Labels) (a : Address) → name_of domain ≡ Some name → (end : Option Outcome)
+    → IsSomeAnd end (λ outcome. (counts : Counts) × EndsWith (zones a) (check_host limits a domain name) outcome counts) → IsSomeAnd end (Gives zones limits domain a)
 given zones limits domain name a is_name None h = h
 given zones limits domain name a is_name (Some outcome) h = (name, h.0, is_name, h.1)
 
 -- what some address asks, its run asks
-asks_there : (zones : Answering) (limits : Limits) (domain : List ℕ) (name : Labels) (a : Address) (question : Question) → name_of domain ≡ Some name
-    → AskedFor zones limits domain a question → AsksFor zones (check_host limits a domain name) question
+asks_there : (zones : AnsweringEach) (limits : Limits) (domain : List ℕ) (name : Labels) (a : Address) (question : Question) → name_of domain ≡ Some name
+    → AskedFor zones limits domain a question → AsksFor (zones a) (check_host limits a domain name) question
 asks_there zones limits domain name a question is_name h =
-    subst (λ n. AsksFor zones (check_host limits a domain n) question) (same_name (sym h.1 ∙ is_name)) h.2
+    subst (λ n. AsksFor (zones a) (check_host limits a domain n) question) (same_name (sym h.1 ∙ is_name)) h.2
 
 none_in : (question : Question) → Contains {X = Question} [] question → ⊥
 none_in question h = omega (arith, h.1)
 
-module _ (zones : Answering) (limits : Limits) (domain : List ℕ) (name : Labels) (four six : List (Cidr × Outcome)) (between more ordered : List Question) where
+module _ (zones : AnsweringEach) (limits : Limits) (domain : List ℕ) (name : Labels) (four six : List (Cidr × Outcome)) (between more ordered : List Question) where
   asked_by : name_of domain ≡ Some name
-      → AreEndsOf 32 zones (λ a. check_host limits (V4 a) domain name) four [] between
-      → AreEndsOf 128 zones (λ a. check_host limits (V6 a) domain name) six between more
+      → AreEndsOf 32 (λ a. zones (V4 a)) (λ a. check_host limits (V4 a) domain name) four [] between
+      → AreEndsOf 128 (λ a. zones (V6 a)) (λ a. check_host limits (V6 a) domain name) six between more
       → (question : Question) → Contains more question → IsAsked zones limits domain question
   asked_by is_name first second question h = elim (second.only question h) [
     | inl before ↦ elim (first.only question before) [
@@ -53,8 +53,8 @@ module _ (zones : Answering) (limits : Limits) (domain : List ℕ) (name : Label
   ]
 
   listed : name_of domain ≡ Some name
-      → AreEndsOf 32 zones (λ a. check_host limits (V4 a) domain name) four [] between
-      → AreEndsOf 128 zones (λ a. check_host limits (V6 a) domain name) six between more
+      → AreEndsOf 32 (λ a. zones (V4 a)) (λ a. check_host limits (V4 a) domain name) four [] between
+      → AreEndsOf 128 (λ a. zones (V6 a)) (λ a. check_host limits (V6 a) domain name) six between more
       → (question : Question) (a : Address) → IsAddress a → AskedFor zones limits domain a question → Contains more question
   listed is_name first second question (V4 n) below h =
       second.kept question (first.covers question (n, below, asks_there zones limits domain name (V4 n) question is_name h))
@@ -62,8 +62,8 @@ module _ (zones : Answering) (limits : Limits) (domain : List ℕ) (name : Label
       second.covers question (n, below, asks_there zones limits domain name (V6 n) question is_name h)
 
   pub evaluated : name_of domain ≡ Some name
-      → AreEndsOf 32 zones (λ a. check_host limits (V4 a) domain name) four [] between
-      → AreEndsOf 128 zones (λ a. check_host limits (V6 a) domain name) six between more
+      → AreEndsOf 32 (λ a. zones (V4 a)) (λ a. check_host limits (V4 a) domain name) four [] between
+      → AreEndsOf 128 (λ a. zones (V6 a)) (λ a. check_host limits (V6 a) domain name) six between more
       → IsInOrder ordered → ((question : Question) → Contains ordered question ↔ Contains more question)
       → IsEvaluation zones limits domain four six ordered
   evaluated is_name first second in_order same = record {

@@ -48,7 +48,7 @@ over_at zones asked run begin old (Some state) end e h ends =
 same_counts : {c d : Counts} → Some (Live c) ≡ Some (Live d) → c ≡ d
 same_counts e = cc
 
-ends_of_walk : (bits : ℕ) (zones : Answering) (run : ℕ → Counts → Run) (begin : Counts) (old new : List (Cidr × State)) (ends : List (Cidr × Outcome)) (asked more : List Question)
+ends_of_walk : (bits : ℕ) (zones : ℕ → Answering) (run : ℕ → Counts → Run) (begin : Counts) (old new : List (Cidr × State)) (ends : List (Cidr × Outcome)) (asked more : List Question)
     → ((a : ℕ) → a < 2 ^ bits → value_at bits old a ≡ Some (Live begin))
     → Walks bits zones (λ a counts go. run a counts) old new asked more
     → ((a : ℕ) → a < 2 ^ bits → value_at bits ends a ≡ option_map outcome_of (value_at bits new a))
@@ -61,16 +61,16 @@ ends_of_walk bits zones run begin old new ends asked more whole walk made = reco
     | inr by ↦ inr (
       by.address,
       by.within,
-      subst (λ c. AsksFor zones (run by.address c) q) (same_counts (sym by.live ∙ whole by.address by.within)) (by.asks (Ends (Is Neutral))),
+      subst (λ c. AsksFor (zones by.address) (run by.address c) q) (same_counts (sym by.live ∙ whole by.address by.within)) (by.asks (Ends (Is Neutral))),
     )
   ];
   covers = λ q h. (at h.0 h.1).1 q h.2;
 }
   where
-    at : (a : ℕ) → a < 2 ^ bits → IsOver zones more (run a begin) (value_at bits ends a)
-    at a below = over_at zones more (run a) begin (value_at bits old a) (value_at bits new a) (value_at bits ends a) (whole a below) (walk.each a below) (made a below)
+    at : (a : ℕ) → a < 2 ^ bits → IsOver (zones a) more (run a begin) (value_at bits ends a)
+    at a below = over_at (zones a) more (run a) begin (value_at bits old a) (value_at bits new a) (value_at bits ends a) (whole a below) (walk.each a below) (made a below)
 
-pub family_ends : (bits : ℕ) (zones : Answering) (address : ℕ → Address) (context : RecordContext) (old new : List (Cidr × State)) (ends : List (Cidr × Outcome)) (asked more : List Question)
+pub family_ends : (bits : ℕ) (zones : ℕ → Answering) (address : ℕ → Address) (context : RecordContext) (old new : List (Cidr × State)) (ends : List (Cidr × Outcome)) (asked more : List Question)
     → ((a : ℕ) → a < 2 ^ bits → value_at bits old a ≡ Some (Live (record { lookups = 0; voids = 0 })))
     → Walks bits zones (record_stretch address context (context.limits.lookups + 1)) old new asked more
     → ((a : ℕ) → a < 2 ^ bits → value_at bits ends a ≡ option_map outcome_of (value_at bits new a))

@@ -13,8 +13,8 @@ use Rattle.std.specs.Map.{keys_of, values_of}
 use Rattle.std.specs.Ordering.{nat_cmp, ordering_then, match_ordering, is_eq}
 use Rattle.std.specs.BTreeMap.{insert_entry}
 use Rattle.dns_name.proofs.Printing.{names_differ}
-use Rattle.zone_answers.specs.declared.answer.QKind.{QKind}
-use Rattle.zone_answers.specs.declared.answer.QKind.TheVariants.{A, Aaaa, Mx, Txt}
+use Rattle.zone_answers.specs.declared.ask_kind.AskKind.{AskKind}
+use Rattle.zone_answers.specs.declared.ask_kind.AskKind.TheVariants.{A, Aaaa, Mx, Txt, Reverse4, Reverse6}
 use Rattle.zone_answers.specs.declared.answer.Question.{Question}
 use Rattle.spf_model.specs.Result.{kind_number, IsBefore, IsInOrder}
 use Rattle.symbolic_check.specs.declared.asked.Key.{Key}
@@ -36,23 +36,43 @@ then_less Greater b h = absurd cc
 texts_equal : (xs ys : List ℕ) → slice_cmp nat_cmp xs ys ≡ Equal → xs ≡ ys
 texts_equal xs ys h = (bytes_eq-Decides xs ys).0 (sym (is_eq-slice_cmp xs ys) ∙ ap is_eq h)
 
-kinds_equal : (k l : QKind) → kind_number k ≡ kind_number l → k ≡ l
+kinds_equal : (k l : AskKind) → kind_number k ≡ kind_number l → k ≡ l
 kinds_equal A A h = refl
 kinds_equal A Aaaa h = absurd (omega (arith, h))
 kinds_equal A Mx h = absurd (omega (arith, h))
 kinds_equal A Txt h = absurd (omega (arith, h))
+kinds_equal A Reverse4 h = absurd (omega (arith, h))
+kinds_equal A Reverse6 h = absurd (omega (arith, h))
 kinds_equal Aaaa A h = absurd (omega (arith, h))
 kinds_equal Aaaa Aaaa h = refl
 kinds_equal Aaaa Mx h = absurd (omega (arith, h))
 kinds_equal Aaaa Txt h = absurd (omega (arith, h))
+kinds_equal Aaaa Reverse4 h = absurd (omega (arith, h))
+kinds_equal Aaaa Reverse6 h = absurd (omega (arith, h))
 kinds_equal Mx A h = absurd (omega (arith, h))
 kinds_equal Mx Aaaa h = absurd (omega (arith, h))
 kinds_equal Mx Mx h = refl
 kinds_equal Mx Txt h = absurd (omega (arith, h))
+kinds_equal Mx Reverse4 h = absurd (omega (arith, h))
+kinds_equal Mx Reverse6 h = absurd (omega (arith, h))
 kinds_equal Txt A h = absurd (omega (arith, h))
 kinds_equal Txt Aaaa h = absurd (omega (arith, h))
 kinds_equal Txt Mx h = absurd (omega (arith, h))
 kinds_equal Txt Txt h = refl
+kinds_equal Txt Reverse4 h = absurd (omega (arith, h))
+kinds_equal Txt Reverse6 h = absurd (omega (arith, h))
+kinds_equal Reverse4 A h = absurd (omega (arith, h))
+kinds_equal Reverse4 Aaaa h = absurd (omega (arith, h))
+kinds_equal Reverse4 Mx h = absurd (omega (arith, h))
+kinds_equal Reverse4 Txt h = absurd (omega (arith, h))
+kinds_equal Reverse4 Reverse4 h = refl
+kinds_equal Reverse4 Reverse6 h = absurd (omega (arith, h))
+kinds_equal Reverse6 A h = absurd (omega (arith, h))
+kinds_equal Reverse6 Aaaa h = absurd (omega (arith, h))
+kinds_equal Reverse6 Mx h = absurd (omega (arith, h))
+kinds_equal Reverse6 Txt h = absurd (omega (arith, h))
+kinds_equal Reverse6 Reverse4 h = absurd (omega (arith, h))
+kinds_equal Reverse6 Reverse6 h = refl
 
 -- equal texts are those of one name
 one_name : (p q : Question) (k l : Key) → IsKeyOf p k → IsKeyOf q l → k.text.items ≡ l.text.items → p.name ≡ q.name
@@ -64,7 +84,7 @@ one_question p q k l h g e =
     let both = then_equal (slice_cmp nat_cmp k.text.items l.text.items) (nat_cmp k.kind l.kind) e in
     let name : p.name ≡ q.name = one_name p q k l h g (texts_equal k.text.items l.text.items both.0) in
     let kind : p.kind ≡ q.kind = kinds_equal p.kind q.kind (sym h.kind ∙ ranked k.kind l.kind Equal (sym both.1) ∙ g.kind) in
-    ap₂ (λ (n : List (List ℕ)) (t : QKind). let question : Question = record { name = n; kind = t } in question) name kind
+    ap₂ (λ (n : List (List ℕ)) (t : AskKind). let question : Question = record { name = n; kind = t } in question) name kind
 
 -- a lesser key is that of a question that stands before
 stands_before : (p q : Question) (k l : Key) → IsKeyOf p k → IsKeyOf q l → key_order.cmp-value.it k l ≡ Less → IsBefore p q
@@ -87,7 +107,7 @@ rising (e ∷ f ∷ entries) h sorted = (
 
 -- ---- one more question
 
-in_one : {X : Type 0} (x y : X) → Contains (x ∷ []) y → x ≡ y
+pub in_one : {X : Type 0} (x y : X) → Contains (x ∷ []) y → x ≡ y
 in_one x y h = elim (Contains-push_cases [] x y h) [ inl none ↦ absurd (omega (arith, none.1)) | inr same ↦ same ]
 
 pub in_cons : {X : Type 0} (x y : X) (xs : List X) → Contains (x ∷ xs) y → (x ≡ y) ⊎ Contains xs y

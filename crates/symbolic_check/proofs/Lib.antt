@@ -5,6 +5,7 @@ pub mod Keying
 pub mod Matching
 pub mod Records
 pub mod Rests
+pub mod Reversing
 pub mod Rows
 pub mod Settling
 pub mod Stepping

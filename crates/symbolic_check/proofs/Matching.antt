@@ -26,16 +26,17 @@ use Rattle.spf_model.specs.declared.outcome.Halt.TheVariants.{Ended}
 use Rattle.spf_grammar.specs.declared.policy.Mechanism.{Mechanism}
 use Rattle.spf_model.specs.declared.outcome.Place.{Place}
 use Rattle.spf_model.specs.Run.{Run, Ends, Answering}
-use Rattle.spf_model.specs.Judging.{at, counted, void_counted, len_in, body_agrees, answer_bodies, some_agrees, some_void, is_met, gather, judge_gathered}
+use Rattle.spf_model.specs.Judging.{at, counted, void_counted, len_in, body_agrees, answer_bodies, some_agrees, some_void, is_met, gather_common, judge_gathered}
 use Rattle.spf_model.specs.Check.{unless_matched}
 use Rattle.spf_model.specs.declared.gathered.Gathered.{Gathered}
+use Rattle.spf_model.specs.declared.gathered.Hosts.{Hosts}
 use Rattle.spf_model.specs.declared.context.RecordContext.{RecordContext}
 use Rattle.symbolic_check.specs.declared.state.State.{State}
 use Rattle.symbolic_check.specs.Steps.{after_lookup, after_void, after_match, after_failure}
 use Rattle.symbolic_check.specs.Walk.{Stretch, Moves, Walks, SomeLive, NoneLive, StepsAt, StepsWith}
 use Rattle.spf_model.specs.Leads.{site_of}
 use Rattle.spf_model.specs.Settling.{Settles}
-use Rattle.symbolic_check.specs.Stretches.{hosts_stretch, term_stretch}
+use Rattle.symbolic_check.specs.Stretches.{hosts_stretch, own_stretch, term_stretch}
 use Rattle.symbolic_check.proofs.Walking.{walks_twice, walks_by_steps}
 use Rattle.symbolic_check.proofs.Stepping.{lookup_moves, void_moves, match_moves, failure_moves}
 use Rattle.symbolic_check.proofs.Settling.{after_part, walks_idle, walks_passed, walks_stopped}
@@ -46,22 +47,22 @@ use Rattle.symbolic_check.proofs.Rows.{walks_by_steps_with}
 abbrev pub lookup_stretch : RecordContext → ℕ → ℕ → Stretch
 lookup_stretch context t a = counted (site_of context) t
 
-pub lookup_walks : (bits : ℕ) (zones : Answering) (context : RecordContext) (t : ℕ) (place : Place) (old new : List (Cidr × State)) (asked : List Question)
+pub lookup_walks : (bits : ℕ) (zones : ℕ → Answering) (context : RecordContext) (t : ℕ) (place : Place) (old new : List (Cidr × State)) (asked : List Question)
     → place ≡ record { name = context.name.now; term = t } → StepsAt bits (λ a. after_lookup context.limits place) old new
     → Walks bits zones (lookup_stretch context t) old new asked asked
 lookup_walks bits zones context t place old new asked is steps =
     walks_by_steps bits zones (lookup_stretch context t) (λ a. after_lookup context.limits place) old new asked
-    (λ a s. subst (λ (p : Place). Moves zones asked (lookup_stretch context t a) s (after_lookup context.limits p s)) (sym is) (lookup_moves zones asked (site_of context) t s)) steps
+    (λ a s. subst (λ (p : Place). Moves (zones a) asked (lookup_stretch context t a) s (after_lookup context.limits p s)) (sym is) (lookup_moves (zones a) asked (site_of context) t s)) steps
 
 abbrev void_stretch : RecordContext → ℕ → Bool → ℕ → Stretch
 void_stretch context t void a = void_counted (site_of context) t void
 
-void_walks : (bits : ℕ) (zones : Answering) (context : RecordContext) (t : ℕ) (place : Place) (void : Bool) (old new : List (Cidr × State)) (asked : List Question)
+void_walks : (bits : ℕ) (zones : ℕ → Answering) (context : RecordContext) (t : ℕ) (place : Place) (void : Bool) (old new : List (Cidr × State)) (asked : List Question)
     → place ≡ record { name = context.name.now; term = t } → StepsAt bits (λ a. after_void context.limits place void) old new
     → Walks bits zones (void_stretch context t void) old new asked asked
 void_walks bits zones context t place void old new asked is steps =
     walks_by_steps bits zones (void_stretch context t void) (λ a. after_void context.limits place void) old new asked
-    (λ a s. subst (λ (p : Place). Moves zones asked (void_stretch context t void a) s (after_void context.limits p void s)) (sym is) (void_moves zones asked (site_of context) t void s)) steps
+    (λ a s. subst (λ (p : Place). Moves (zones a) asked (void_stretch context t void a) s (after_void context.limits p void s)) (sym is) (void_moves (zones a) asked (site_of context) t void s)) steps
 
 -- ---- matching
 
@@ -74,12 +75,12 @@ abbrev match_stretch : Verdict → (ℕ → Bool) → ℕ → Stretch
 match_stretch verdict matches a counts go = unless_matched verdict go (matches a) counts
 
 -- a set of the addresses that match
-set_walks : (bits : ℕ) (zones : Answering) (verdict : Verdict) (matches : ℕ → Bool) (set : List (Cidr × Bool)) (old new : List (Cidr × State)) (asked : List Question)
+set_walks : (bits : ℕ) (zones : ℕ → Answering) (verdict : Verdict) (matches : ℕ → Bool) (set : List (Cidr × Bool)) (old new : List (Cidr × State)) (asked : List Question)
     → ((a : ℕ) → a < 2 ^ bits → value_at bits set a ≡ Some (matches a)) → StepsWith bits (after_match verdict) set old new
     → Walks bits zones (match_stretch verdict matches) old new asked asked
 set_walks bits zones verdict matches set old new asked is steps =
     walks_by_steps_with bits zones (match_stretch verdict matches) (after_match verdict) set old new asked
-    (λ a u s below e. subst (λ (b : Bool). Moves zones asked (match_stretch verdict matches a) s (after_match verdict b s)) (unsome (sym (is a below) ∙ e)) (match_moves zones asked verdict (matches a) s)) steps
+    (λ a u s below e. subst (λ (b : Bool). Moves (zones a) asked (match_stretch verdict matches a) s (after_match verdict b s)) (unsome (sym (is a below) ∙ e)) (match_moves (zones a) asked verdict (matches a) s)) steps
   where
     held : Bool → Option Bool → Bool
     held b None = b
@@ -113,7 +114,7 @@ agree_as_one f len len4 len6 is found answers a all =
 
 -- ---- what a mechanism makes of what it gathered
 
-pub gathered_walk : (bits : ℕ) (zones : Answering) (context : RecordContext) (address : ℕ → Address) (t : ℕ) (verdict : Verdict) (m : Mechanism) (gathered : Gathered) (place : Place) (void : Bool)
+pub gathered_walk : (bits : ℕ) (zones : ℕ → Answering) (context : RecordContext) (address : ℕ → Address) (t : ℕ) (verdict : Verdict) (m : Mechanism) (gathered : Gathered) (place : Place) (void : Bool)
     (set : List (Cidr × Bool)) (old between new : List (Cidr × State)) (asked : List Question)
     → place ≡ at (site_of context) t → void ≡ some_void gathered → StepsAt bits (λ a. after_void context.limits place void) old between
     → ((a : ℕ) → a < 2 ^ bits → value_at bits set a ≡ Some (is_met m (address a) gathered.answers)) → StepsWith bits (after_match verdict) set between new
@@ -126,41 +127,41 @@ gathered_walk bits zones context address t verdict m gathered place void set old
 
 -- ---- a mechanism that asks for hosts
 
--- what goes on at an address with what was gathered
-abbrev judge_at : RecordContext → (ℕ → Address) → ℕ → Verdict → Mechanism → ℕ → Counts → Gathered → (Counts → Run) → Run
-judge_at context address t verdict m a counts gathered go = judge_gathered (site_of context) (address a) t m gathered counts (unless_matched verdict go)
+-- what goes on at an address with the hosts that were found
+abbrev judge_at : RecordContext → (ℕ → Address) → ℕ → Verdict → Mechanism → ℕ → Counts → Hosts → (Counts → Run) → Run
+judge_at context address t verdict m a counts hosts go = own_stretch address context t verdict m hosts a counts go
 
-pub hosts_idle : (bits : ℕ) (zones : Answering) (context : RecordContext) (address : ℕ → Address) (t : ℕ) (verdict : Verdict) (m : Mechanism) (old between : List (Cidr × State)) (asked : List Question)
+pub hosts_idle : (bits : ℕ) (zones : ℕ → Answering) (context : RecordContext) (address : ℕ → Address) (t : ℕ) (verdict : Verdict) (m : Mechanism) (old between : List (Cidr × State)) (asked : List Question)
     → Walks bits zones (lookup_stretch context t) old between asked asked → NoneLive bits between
     → Walks bits zones (hosts_stretch address context t verdict m) old between asked asked
 hosts_idle bits zones context address t verdict m old between asked counts none =
-    walks_twice bits zones (lookup_stretch context t) (after_part (gather (site_of context) t m) (judge_at context address t verdict m)) old between between asked asked asked counts
-    (walks_idle bits zones (after_part (gather (site_of context) t m) (judge_at context address t verdict m)) between asked none)
+    walks_twice bits zones (lookup_stretch context t) (after_part (gather_common (site_of context) t m) (judge_at context address t verdict m)) old between between asked asked asked counts
+    (walks_idle bits zones (after_part (gather_common (site_of context) t m) (judge_at context address t verdict m)) between asked none)
 
-pub hosts_stopped : (bits : ℕ) (zones : Answering) (context : RecordContext) (address : ℕ → Address) (t : ℕ) (verdict : Verdict) (m : Mechanism) (outcome : Outcome) (old between new : List (Cidr × State)) (asked more : List Question)
+pub hosts_stopped : (bits : ℕ) (zones : ℕ → Answering) (context : RecordContext) (address : ℕ → Address) (t : ℕ) (verdict : Verdict) (m : Mechanism) (outcome : Outcome) (old between new : List (Cidr × State)) (asked more : List Question)
     → Walks bits zones (lookup_stretch context t) old between asked asked → SomeLive bits between
-    → Settles zones (gather (site_of context) t m) asked more (Err (Ended outcome)) → StepsAt bits (λ a. after_failure outcome) between new
+    → ((a : ℕ) → Settles (zones a) (gather_common (site_of context) t m) asked more (Err (Ended outcome))) → StepsAt bits (λ a. after_failure outcome) between new
     → Walks bits zones (hosts_stretch address context t verdict m) old new asked more
 hosts_stopped bits zones context address t verdict m outcome old between new asked more counts live settles steps =
-    walks_twice bits zones (lookup_stretch context t) (after_part (gather (site_of context) t m) (judge_at context address t verdict m)) old between new asked asked more counts
-    (walks_stopped bits zones (gather (site_of context) t m) outcome (judge_at context address t verdict m) between new asked more settles.0 settles.1 live steps)
+    walks_twice bits zones (lookup_stretch context t) (after_part (gather_common (site_of context) t m) (judge_at context address t verdict m)) old between new asked asked more counts
+    (walks_stopped bits zones (gather_common (site_of context) t m) outcome (judge_at context address t verdict m) between new asked more (λ a. (settles a).0) (λ a. (settles a).1) live steps)
 
-pub hosts_walked : (bits : ℕ) (zones : Answering) (context : RecordContext) (address : ℕ → Address) (t : ℕ) (verdict : Verdict) (m : Mechanism) (gathered : Gathered) (old between new : List (Cidr × State)) (asked more : List Question)
+pub hosts_walked : (bits : ℕ) (zones : ℕ → Answering) (context : RecordContext) (address : ℕ → Address) (t : ℕ) (verdict : Verdict) (m : Mechanism) (hosts : Hosts) (old between new : List (Cidr × State)) (asked mid more : List Question)
     → Walks bits zones (lookup_stretch context t) old between asked asked → SomeLive bits between
-    → Settles zones (gather (site_of context) t m) asked more (Ok gathered)
-    → Walks bits zones (λ a counts go. judge_gathered (site_of context) (address a) t m gathered counts (unless_matched verdict go)) between new more more
+    → ((a : ℕ) → Settles (zones a) (gather_common (site_of context) t m) asked mid (Ok hosts))
+    → Walks bits zones (own_stretch address context t verdict m hosts) between new mid more
     → Walks bits zones (hosts_stretch address context t verdict m) old new asked more
-hosts_walked bits zones context address t verdict m gathered old between new asked more counts live settles judged =
-    walks_twice bits zones (lookup_stretch context t) (after_part (gather (site_of context) t m) (judge_at context address t verdict m)) old between new asked asked more counts
-    (walks_passed bits zones (gather (site_of context) t m) gathered (judge_at context address t verdict m) between new asked more more settles.0 settles.1 live judged)
+hosts_walked bits zones context address t verdict m hosts old between new asked mid more counts live settles judged =
+    walks_twice bits zones (lookup_stretch context t) (after_part (gather_common (site_of context) t m) (judge_at context address t verdict m)) old between new asked asked more counts
+    (walks_passed bits zones (gather_common (site_of context) t m) hosts (judge_at context address t verdict m) between new asked mid more (λ a. (settles a).0) (λ a. (settles a).1) live judged)
 
 -- `ptr` is left open
-pub ptr_walk : (bits : ℕ) (zones : Answering) (context : RecordContext) (address : ℕ → Address) (depth t : ℕ) (verdict : Verdict) (spec : Option (List Piece)) (place : Place) (old between new : List (Cidr × State)) (asked : List Question)
+pub ptr_walk : (bits : ℕ) (zones : ℕ → Answering) (context : RecordContext) (address : ℕ → Address) (depth t : ℕ) (verdict : Verdict) (spec : Option (List Piece)) (place : Place) (old between new : List (Cidr × State)) (asked : List Question)
     → Walks bits zones (lookup_stretch context t) old between asked asked → place ≡ record { name = context.name.now; term = t }
     → StepsAt bits (λ a. after_failure (Unsettled cause.Reverse place)) between new
     → Walks bits zones (term_stretch address context depth t (Directive verdict (mechanism.Ptr spec))) old new asked asked
 ptr_walk bits zones context address depth t verdict spec place old between new asked f is steps =
     walks_twice bits zones (lookup_stretch context t) (λ a counts go. Ends (Unsettled cause.Reverse (record { name = context.name.now; term = t })) counts) old between new asked asked asked f
     (walks_by_steps bits zones (λ a counts go. Ends (Unsettled cause.Reverse (record { name = context.name.now; term = t })) counts) (λ a. after_failure (Unsettled cause.Reverse place)) between new asked
-    (λ a s. subst (λ (p : Place). Moves zones asked (λ counts go. Ends (Unsettled cause.Reverse (record { name = context.name.now; term = t })) counts) s (after_failure (Unsettled cause.Reverse p) s)) (sym is)
-    (failure_moves zones asked (Unsettled cause.Reverse (record { name = context.name.now; term = t })) s tt)) steps)
+    (λ a s. subst (λ (p : Place). Moves (zones a) asked (λ counts go. Ends (Unsettled cause.Reverse (record { name = context.name.now; term = t })) counts) s (after_failure (Unsettled cause.Reverse p) s)) (sym is)
+    (failure_moves (zones a) asked (Unsettled cause.Reverse (record { name = context.name.now; term = t })) s tt)) steps)

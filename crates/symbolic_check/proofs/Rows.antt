@@ -26,7 +26,7 @@ use Rattle.symbolic_check.proofs.Stepping.{networks_move}
 
 -- ---- a step with another trie
 
-stands_stepped_with : {U : Type 0} (zones : Answering) (asked : List Question) (stretch : Stretch) (step : U → State → State) (old : Option State) (with : Option U) (new : Option State)
+pub stands_stepped_with : {U : Type 0} (zones : Answering) (asked : List Question) (stretch : Stretch) (step : U → State → State) (old : Option State) (with : Option U) (new : Option State)
     → ((u : U) (s : State) → with ≡ Some u → Moves zones asked stretch s (step u s))
     → IsSomeAnd old (λ s. IsSomeAnd with (λ u. new ≡ Some (step u s))) → IsSomeAnd old (λ s. IsSomeAnd new (Moves zones asked stretch s))
 stands_stepped_with zones asked stretch step None with new moves h = h
@@ -35,11 +35,11 @@ stands_stepped_with zones asked stretch step (Some s) (Some u) new moves h =
     subst (λ n. IsSomeAnd n (Moves zones asked stretch s)) (sym h) (moves u s refl)
 
 -- a step that asks nothing is a walk, where each value that it makes is what the stretch leaves
-pub walks_by_steps_with : {U : Type 0} (bits : ℕ) (zones : Answering) (stretch : ℕ → Stretch) (step : U → State → State) (with : List (Cidr × U)) (old new : List (Cidr × State)) (asked : List Question)
-    → ((a : ℕ) (u : U) (s : State) → a < 2 ^ bits → value_at bits with a ≡ Some u → Moves zones asked (stretch a) s (step u s))
+pub walks_by_steps_with : {U : Type 0} (bits : ℕ) (zones : ℕ → Answering) (stretch : ℕ → Stretch) (step : U → State → State) (with : List (Cidr × U)) (old new : List (Cidr × State)) (asked : List Question)
+    → ((a : ℕ) (u : U) (s : State) → a < 2 ^ bits → value_at bits with a ≡ Some u → Moves (zones a) asked (stretch a) s (step u s))
     → StepsWith bits step with old new → Walks bits zones stretch old new asked asked
 walks_by_steps_with bits zones stretch step with old new asked moves steps = record {
-  each = λ a below. stands_stepped_with zones asked (stretch a) step (value_at bits old a) (value_at bits with a) (value_at bits new a)
+  each = λ a below. stands_stepped_with (zones a) asked (stretch a) step (value_at bits old a) (value_at bits with a) (value_at bits new a)
       (λ u s e. moves a u s below e) (steps a below);
   kept = λ q h. h;
   only = λ q h. inl h;
@@ -58,7 +58,7 @@ tried_both judges t [] rest counts last = refl
 tried_both judges t (term ∷ row) rest counts last =
     ap (λ (next : Counts → Run). trying judges t term counts next) (λ i between. tried_both judges (term_after t) row rest between last i)
 
-pub rows_walk : (bits : ℕ) (zones : Answering) (address : ℕ → Address) (context : RecordContext) (depth t : ℕ) (row rest : List Term) (old mid new : List (Cidr × State)) (asked between more : List Question)
+pub rows_walk : (bits : ℕ) (zones : ℕ → Answering) (address : ℕ → Address) (context : RecordContext) (depth t : ℕ) (row rest : List Term) (old mid new : List (Cidr × State)) (asked between more : List Question)
     → Walks bits zones (terms_stretch address context depth t row) old mid asked between
     → Walks bits zones (terms_stretch address context depth (number_after t (length row)) rest) mid new between more
     → Walks bits zones (terms_stretch address context depth t (row ++ rest)) old new asked more
@@ -68,7 +68,7 @@ rows_walk bits zones address context depth t row rest old mid new asked between 
     (walks_twice bits zones (terms_stretch address context depth t row) (terms_stretch address context depth (number_after t (length row)) rest) old mid new asked between more first next)
 
 -- one term, and the terms behind it
-pub term_walks : (bits : ℕ) (zones : Answering) (address : ℕ → Address) (context : RecordContext) (depth t : ℕ) (term : Term) (rest : List Term) (old mid new : List (Cidr × State)) (asked between more : List Question)
+pub term_walks : (bits : ℕ) (zones : ℕ → Answering) (address : ℕ → Address) (context : RecordContext) (depth t : ℕ) (term : Term) (rest : List Term) (old mid new : List (Cidr × State)) (asked between more : List Question)
     → Walks bits zones (term_stretch address context depth t term) old mid asked between
     → Walks bits zones (terms_stretch address context depth (term_after t) rest) mid new between more
     → Walks bits zones (terms_stretch address context depth t (term ∷ rest)) old new asked more
@@ -76,20 +76,20 @@ term_walks bits zones address context depth t term rest =
     walks_twice bits zones (term_stretch address context depth t term) (terms_stretch address context depth (term_after t) rest)
 
 -- a row of networks is one step
-pub row_walks : (bits : ℕ) (zones : Answering) (address : ℕ → Address) (context : RecordContext) (depth t : ℕ) (row : List Term) (found : List (Cidr × Option Verdict)) (old new : List (Cidr × State)) (asked : List Question)
+pub row_walks : (bits : ℕ) (zones : ℕ → Answering) (address : ℕ → Address) (context : RecordContext) (depth t : ℕ) (row : List Term) (found : List (Cidr × Option Verdict)) (old new : List (Cidr × State)) (asked : List Question)
     → list_all is_row_term row ≡ true
     → ((a : ℕ) → a < 2 ^ bits → value_at bits found a ≡ Some (first_network row (address a)))
     → StepsWith bits after_networks found old new → Walks bits zones (terms_stretch address context depth t row) old new asked asked
 row_walks bits zones address context depth t row found old new asked networks first =
     walks_by_steps_with bits zones (terms_stretch address context depth t row) after_networks found old new asked
-    (λ a u s below e. subst (λ (x : Option Verdict). Moves zones asked (terms_stretch address context depth t row a) s (after_networks x s))
+    (λ a u s below e. subst (λ (x : Option Verdict). Moves (zones a) asked (terms_stretch address context depth t row a) s (after_networks x s))
     (some_same (sym (first a below) ∙ e))
-    (networks_move zones asked (site_of context) (address a) (check context.limits (address a) depth) t row s networks))
+    (networks_move (zones a) asked (site_of context) (address a) (check context.limits (address a) depth) t row s networks))
   where
     some_same : {x y : Option Verdict} → Some x ≡ Some y → x ≡ y
     some_same e = cc
 
-pub row_stepped : {E : Type 0} (bits : ℕ) (zones : Answering) (address : ℕ → Address) (context : RecordContext) (row : List Term) (found : List (Cidr × Option Verdict)) (old : List (Cidr × State)) (result : Result (List (Cidr × State)) E)
+pub row_stepped : {E : Type 0} (bits : ℕ) (zones : ℕ → Answering) (address : ℕ → Address) (context : RecordContext) (row : List Term) (found : List (Cidr × Option Verdict)) (old : List (Cidr × State)) (result : Result (List (Cidr × State)) E)
     → list_all is_row_term row ≡ true
     → ((a : ℕ) → a < 2 ^ bits → value_at bits found a ≡ Some (first_network row (address a)))
     → IfOk result (λ new. StepsWith bits after_networks found old new)
@@ -99,12 +99,12 @@ row_stepped bits zones address context row found old (Ok new) networks first ste
 row_stepped bits zones address context row found old (Err e) networks first steps = steps
 
 -- a row is passed where a walk over what stands behind it makes a walk over both
-abbrev pub PassesRow : (bits : ℕ) → Answering → (ℕ → Address) → RecordContext → ℕ → List Term → List (Cidr × State) → List (Cidr × State) → Type 0
+abbrev pub PassesRow : (bits : ℕ) → (ℕ → Answering) → (ℕ → Address) → RecordContext → ℕ → List Term → List (Cidr × State) → List (Cidr × State) → Type 0
 PassesRow bits zones address context count row old mid = (depth t : ℕ) (rest : List Term) (new : List (Cidr × State)) (asked more : List Question)
     → Walks bits zones (terms_stretch address context depth (number_after t count) rest) mid new asked more
     → Walks bits zones (terms_stretch address context depth t (row ++ rest)) old new asked more
 
-pub row_passed : {E : Type 0} (bits : ℕ) (zones : Answering) (address : ℕ → Address) (context : RecordContext) (count start : ℕ) (terms : List Term) (old : List (Cidr × State)) (result : Result (List (Cidr × State)) E)
+pub row_passed : {E : Type 0} (bits : ℕ) (zones : ℕ → Answering) (address : ℕ → Address) (context : RecordContext) (count start : ℕ) (terms : List Term) (old : List (Cidr × State)) (result : Result (List (Cidr × State)) E)
     → count + start ≤ length terms
     → IfOk result (λ mid. (depth t : ℕ) (asked : List Question) → Walks bits zones (terms_stretch address context depth t (take count (drop start terms))) old mid asked asked)
     → IfOk result (PassesRow bits zones address context count (take count (drop start terms)) old)
@@ -114,7 +114,7 @@ row_passed bits zones address context count start terms old (Ok mid) within h = 
     (sym (length-take-le count (drop start terms) (omega (arith, within, length-drop start terms)))) next)
 row_passed bits zones address context count start terms old (Err e) within h = h
 
-pub no_row_passed : (bits : ℕ) (zones : Answering) (address : ℕ → Address) (context : RecordContext) (count : ℕ) (terms : List Term) (states : List (Cidr × State))
+pub no_row_passed : (bits : ℕ) (zones : ℕ → Answering) (address : ℕ → Address) (context : RecordContext) (count : ℕ) (terms : List Term) (states : List (Cidr × State))
     → count ≡ 0 → PassesRow bits zones address context count (take count terms) states states
 no_row_passed bits zones address context count terms states none =
     subst (λ (n : ℕ). PassesRow bits zones address context n (take n terms) states states) (sym none) (λ depth t rest new asked more next. next)
@@ -123,7 +123,7 @@ no_row_passed bits zones address context count terms states none =
 
 -- the terms from one on are left to walk, and those of them that stand before another are a row. So far, a walk over what is left
 -- makes a walk over all
-pub record WalkedSoFar (bits : ℕ) (zones : Answering) (address : ℕ → Address) (context : RecordContext) (depth : ℕ) (terms : List Term)
+pub record WalkedSoFar (bits : ℕ) (zones : ℕ → Answering) (address : ℕ → Address) (context : RecordContext) (depth : ℕ) (terms : List Term)
     (old : List (Cidr × State)) (asked : List Question) (start index number : ℕ) (states : List (Cidr × State)) (between : List Question) : Type 0 where
   pub first : ℕ
   pub within : start ≤ index
@@ -133,12 +133,12 @@ pub record WalkedSoFar (bits : ℕ) (zones : Answering) (address : ℕ → Addre
       → Walks bits zones (terms_stretch address context depth first (drop start terms)) states new between more
       → Walks bits zones (terms_stretch address context depth 1 terms) old new asked more
 
-pub walked_none : (bits : ℕ) (zones : Answering) (address : ℕ → Address) (context : RecordContext) (depth : ℕ) (terms : List Term) (old : List (Cidr × State)) (asked : List Question)
+pub walked_none : (bits : ℕ) (zones : ℕ → Answering) (address : ℕ → Address) (context : RecordContext) (depth : ℕ) (terms : List Term) (old : List (Cidr × State)) (asked : List Question)
     → WalkedSoFar bits zones address context depth terms old asked 0 0 1 old asked
 walked_none bits zones address context depth terms old asked = record { first = 1; within = omega arith; numbered = refl; row = refl; walks = λ new more h. h }
 
 -- the next term belongs to the row
-pub walked_row : (bits : ℕ) (zones : Answering) (address : ℕ → Address) (context : RecordContext) (depth : ℕ) (terms : List Term) (old : List (Cidr × State)) (asked : List Question)
+pub walked_row : (bits : ℕ) (zones : ℕ → Answering) (address : ℕ → Address) (context : RecordContext) (depth : ℕ) (terms : List Term) (old : List (Cidr × State)) (asked : List Question)
     (start index number : ℕ) (states : List (Cidr × State)) (between : List Question) (term : Term)
     → WalkedSoFar bits zones address context depth terms old asked start index number states between
     → index < length terms → term ≡ get_or terms index term → is_row_term term ≡ true
@@ -166,7 +166,7 @@ walked_row bits zones address context depth terms old asked start index number s
     both_parts e f = rw (e, f) refl
 
 -- the next term is walked behind the row
-pub walked_term : (bits : ℕ) (zones : Answering) (address : ℕ → Address) (context : RecordContext) (depth : ℕ) (terms : List Term) (old : List (Cidr × State)) (asked : List Question)
+pub walked_term : (bits : ℕ) (zones : ℕ → Answering) (address : ℕ → Address) (context : RecordContext) (depth : ℕ) (terms : List Term) (old : List (Cidr × State)) (asked : List Question)
     (start index number : ℕ) (states mid new : List (Cidr × State)) (between more : List Question) (term : Term)
     → WalkedSoFar bits zones address context depth terms old asked start index number states between
     → index < length terms → term ≡ get_or terms index term
@@ -200,7 +200,7 @@ walked_term bits zones address context depth terms old asked start index number 
         ∙ take-append-drop (index - start) (drop start terms)
 
 -- no address is live behind the row
-pub walked_idle : (bits : ℕ) (zones : Answering) (address : ℕ → Address) (context : RecordContext) (depth : ℕ) (terms : List Term) (old : List (Cidr × State)) (asked : List Question)
+pub walked_idle : (bits : ℕ) (zones : ℕ → Answering) (address : ℕ → Address) (context : RecordContext) (depth : ℕ) (terms : List Term) (old : List (Cidr × State)) (asked : List Question)
     (start index number : ℕ) (states mid : List (Cidr × State)) (between : List Question)
     → WalkedSoFar bits zones address context depth terms old asked start index number states between
     → PassesRow bits zones address context (index - start) (take (index - start) (drop start terms)) states mid → NoneLive bits mid
@@ -215,7 +215,7 @@ walked_idle bits zones address context depth terms old asked start index number 
     rest = drop (index - start) (drop start terms)
 
 -- the last row is walked
-pub walked_all : {E : Type 0} (bits : ℕ) (zones : Answering) (address : ℕ → Address) (context : RecordContext) (depth : ℕ) (terms : List Term) (old : List (Cidr × State)) (asked : List Question)
+pub walked_all : {E : Type 0} (bits : ℕ) (zones : ℕ → Answering) (address : ℕ → Address) (context : RecordContext) (depth : ℕ) (terms : List Term) (old : List (Cidr × State)) (asked : List Question)
     (start index number : ℕ) (states : List (Cidr × State)) (between : List Question) (result : Result (List (Cidr × State)) E)
     → WalkedSoFar bits zones address context depth terms old asked start index number states between
     → IfOk result (λ new. (depth t : ℕ) (asked : List Question) → Walks bits zones (terms_stretch address context depth t (drop start terms)) states new asked asked)
@@ -224,7 +224,7 @@ walked_all bits zones address context depth terms old asked start index number s
 walked_all bits zones address context depth terms old asked start index number states between (Err e) so_far walks = walks
 
 -- at the end of the terms the row is what is left
-pub row_left : (bits : ℕ) (zones : Answering) (address : ℕ → Address) (context : RecordContext) (depth : ℕ) (terms : List Term) (old : List (Cidr × State)) (asked : List Question)
+pub row_left : (bits : ℕ) (zones : ℕ → Answering) (address : ℕ → Address) (context : RecordContext) (depth : ℕ) (terms : List Term) (old : List (Cidr × State)) (asked : List Question)
     (start index number : ℕ) (states : List (Cidr × State)) (between : List Question)
     → WalkedSoFar bits zones address context depth terms old asked start index number states between → length terms ≤ index
     → list_all is_row_term (drop start terms) ≡ true

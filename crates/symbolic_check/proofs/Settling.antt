@@ -40,16 +40,16 @@ passed_stands zones asked more part x next a within passes (Some s) None h = h
 passed_stands zones asked more part x next a within passes (Some s) (Some t) h = passed_moves zones asked more part x next a within passes s t h
 
 -- a part that passes, and a walk over what comes after it
-pub walks_passed : {A : Type 0} (bits : ℕ) (zones : Answering) (part : PartOf A) (x : A) (next : ℕ → Counts → A → (Counts → Run) → Run)
+pub walks_passed : {A : Type 0} (bits : ℕ) (zones : ℕ → Answering) (part : PartOf A) (x : A) (next : ℕ → Counts → A → (Counts → Run) → Run)
     (old new : List (Cidr × State)) (asked mid more : List Question)
-    → Passes zones mid part x → Adds zones part asked mid → SomeLive bits old
+    → ((a : ℕ) → Passes (zones a) mid part x) → ((a : ℕ) → Adds (zones a) part asked mid) → SomeLive bits old
     → Walks bits zones (λ a counts go. next a counts x go) old new mid more
     → Walks bits zones (λ a counts go. part counts (λ y. next a counts y go)) old new asked more
 walks_passed {A} bits zones part x next old new asked mid more passes adds live walks = record {
-  each = λ a below. passed_stands zones mid more part x next a walks.kept passes (value_at bits old a) (value_at bits new a) (walks.each a below);
-  kept = λ q h. walks.kept q (adds.kept q h);
+  each = λ a below. passed_stands (zones a) mid more part x next a walks.kept (passes a) (value_at bits old a) (value_at bits new a) (walks.each a below);
+  kept = λ q h. walks.kept q ((adds live.0).kept q h);
   only = λ q h. elim (walks.only q h) [
-    | inl here ↦ elim (adds.only q here) [
+    | inl here ↦ elim ((adds live.0).only q here) [
       | inl there ↦ inl there
       | inr by ↦ inr (record {
         address = live.0;
@@ -64,7 +64,7 @@ walks_passed {A} bits zones part x next old new asked mid more passes adds live 
       counts = by.counts;
       within = by.within;
       live = by.live;
-      asks = λ go. (passes by.counts (λ (y : A). next by.address by.counts y go)).asks q (by.asks go);
+      asks = λ go. (passes by.address by.counts (λ (y : A). next by.address by.counts y go)).asks q (by.asks go);
     })
   ];
 }
@@ -83,14 +83,14 @@ stopped_stands zones asked part outcome next a stops (Some s) new h =
     subst (λ n. IsSomeAnd n (Moves zones asked (after_part part next a) s)) (sym h) (stopped_moves zones asked part outcome next a stops s)
 
 -- a part that stops ends the walk at each live address, whatever comes after it
-pub walks_stopped : {A : Type 0} (bits : ℕ) (zones : Answering) (part : PartOf A) (outcome : Outcome) (next : ℕ → Counts → A → (Counts → Run) → Run)
+pub walks_stopped : {A : Type 0} (bits : ℕ) (zones : ℕ → Answering) (part : PartOf A) (outcome : Outcome) (next : ℕ → Counts → A → (Counts → Run) → Run)
     (old new : List (Cidr × State)) (asked mid : List Question)
-    → Stops zones mid part outcome → Adds zones part asked mid → SomeLive bits old → StepsAt bits (λ a. after_failure outcome) old new
+    → ((a : ℕ) → Stops (zones a) mid part outcome) → ((a : ℕ) → Adds (zones a) part asked mid) → SomeLive bits old → StepsAt bits (λ a. after_failure outcome) old new
     → Walks bits zones (λ a counts go. part counts (λ y. next a counts y go)) old new asked mid
 walks_stopped {A} bits zones part outcome next old new asked mid stops adds live steps = record {
-  each = λ a below. stopped_stands zones mid part outcome next a stops (value_at bits old a) (value_at bits new a) (steps a below);
-  kept = adds.kept;
-  only = λ q h. elim (adds.only q h) [
+  each = λ a below. stopped_stands (zones a) mid part outcome next a (stops a) (value_at bits old a) (value_at bits new a) (steps a below);
+  kept = (adds live.0).kept;
+  only = λ q h. elim ((adds live.0).only q h) [
     | inl here ↦ inl here
     | inr by ↦ inr (record {
       address = live.0;
@@ -115,10 +115,10 @@ idle_stands zones asked stretch None h = h
 idle_stands zones asked stretch (Some s) h = idle_moves zones asked stretch s h
 
 -- every stretch is a walk there
-pub walks_idle : (bits : ℕ) (zones : Answering) (stretch : ℕ → Stretch) (states : List (Cidr × State)) (asked : List Question)
+pub walks_idle : (bits : ℕ) (zones : ℕ → Answering) (stretch : ℕ → Stretch) (states : List (Cidr × State)) (asked : List Question)
     → NoneLive bits states → Walks bits zones stretch states states asked asked
 walks_idle bits zones stretch states asked none = record {
-  each = λ a below. idle_stands zones asked (stretch a) (value_at bits states a) (none a below);
+  each = λ a below. idle_stands (zones a) asked (stretch a) (value_at bits states a) (none a below);
   kept = λ q h. h;
   only = λ q h. inl h;
 }

@@ -161,12 +161,12 @@ live_before_entry None within c e h = absurd e
 live_before_entry (Some s) within c e h = entered_live s c (subst (λ w. w ≡ Some (Live c)) e h)
 
 -- a walk over the record that a term asks for, with the states that enter it, is a walk over what the term makes of it
-judged_walk : (bits : ℕ) (zones : Answering) (address : ℕ → Address) (context : RecordContext) (t : ℕ) (purpose : Purpose) (run : ℕ → Counts → Run) (old within inner new : List (Cidr × State)) (asked more : List Question)
+judged_walk : (bits : ℕ) (zones : ℕ → Answering) (address : ℕ → Address) (context : RecordContext) (t : ℕ) (purpose : Purpose) (run : ℕ → Counts → Run) (old within inner new : List (Cidr × State)) (asked more : List Question)
     → StepsAt bits (λ a. entered) old within → Walks bits zones (λ a counts go. run a counts) within inner asked more
     → StepsWith bits (after_target (record { name = context.name.now; term = t }) purpose) inner old new
     → Walks bits zones (λ a. judged (site_of context) t purpose (run a)) old new asked more
 judged_walk bits zones address context t purpose run old within inner new asked more enters walks uses = record {
-  each = λ a below. judged_stands zones more (site_of context) t purpose (run a) (value_at bits old a) (value_at bits within a) (value_at bits inner a) (value_at bits new a)
+  each = λ a below. judged_stands (zones a) more (site_of context) t purpose (run a) (value_at bits old a) (value_at bits within a) (value_at bits inner a) (value_at bits new a)
       (enters a below) (walks.each a below) (uses a below);
   kept = walks.kept;
   only = λ q h. elim (walks.only q h) [
@@ -176,7 +176,7 @@ judged_walk bits zones address context t purpose run old within inner new asked 
       counts = by.counts;
       within = by.within;
       live = live_before_entry (value_at bits old by.address) (value_at bits within by.address) by.counts (enters by.address by.within) by.live;
-      asks = λ go. asks_first zones (run by.address by.counts) (judged_by (site_of context) t (goes_on purpose go)) q (by.asks go);
+      asks = λ go. asks_first (zones by.address) (run by.address by.counts) (judged_by (site_of context) t (goes_on purpose go)) q (by.asks go);
     })
   ];
 }
@@ -203,7 +203,7 @@ counts_at : (limits : Limits) (place : Place) (old new : Option State) → IsSom
 counts_at limits place None new h = h
 counts_at limits place (Some s) new h = h
 
-pub target_walk : (bits : ℕ) (zones : Answering) (address : ℕ → Address) (context : RecordContext) (depth t : ℕ) (spec : List Piece) (purpose : Purpose) (old mid inner new : List (Cidr × State)) (asked more : List Question)
+pub target_walk : (bits : ℕ) (zones : ℕ → Answering) (address : ℕ → Address) (context : RecordContext) (depth t : ℕ) (spec : List Piece) (purpose : Purpose) (old mid inner new : List (Cidr × State)) (asked more : List Question)
     → StepsAt bits (λ a state. after_lookup context.limits (record { name = context.name.now; term = t }) (entered state)) old mid
     → Walks bits zones (reached_stretch address context depth t spec) mid inner asked more
     → StepsWith bits (after_target (record { name = context.name.now; term = t }) purpose) inner old new
@@ -216,7 +216,7 @@ target_walk bits zones address context depth t spec purpose old mid inner new as
     (enters_at (value_at bits old a) (λ s. value_at bits mid a ≡ Some (after_lookup context.limits place (entered s))) (enters a below)))
     (walks_twice bits zones (λ a. counted (site_of context) t) (reached_stretch address context depth t spec) within mid inner asked asked more
     (walks_by_steps bits zones (λ a. counted (site_of context) t) (λ a. after_lookup context.limits place) within mid asked
-    (λ a s. lookup_moves zones asked (site_of context) t s)
+    (λ a s. lookup_moves (zones a) asked (site_of context) t s)
     (λ a below. subst (λ (w : Option State). IsSomeAnd w (λ s. value_at bits mid a ≡ Some (after_lookup context.limits place s))) (sym (value_entered bits old a))
     (counts_at context.limits place (value_at bits old a) (value_at bits mid a) (enters a below))))
     walks)

@@ -77,11 +77,11 @@ live_before zones asked first None mid d e h = absurd h
 live_before zones asked first (Some s) mid d e h = live_from zones asked first s d (subst (λ m. IsSomeAnd m (Moves zones asked first s)) e h)
 
 -- two walks one after the other are a walk over both stretches
-pub walks_twice : (bits : ℕ) (zones : Answering) (first next : ℕ → Stretch) (old mid new : List (Cidr × State)) (asked between more : List Question)
+pub walks_twice : (bits : ℕ) (zones : ℕ → Answering) (first next : ℕ → Stretch) (old mid new : List (Cidr × State)) (asked between more : List Question)
     → Walks bits zones first old mid asked between → Walks bits zones next mid new between more
     → Walks bits zones (λ a. then_stretch (first a) (next a)) old new asked more
 walks_twice bits zones first next old mid new asked between more f g = record {
-  each = λ a below. stands_twice zones between more (first a) (next a) g.kept (value_at bits old a) (value_at bits mid a) (value_at bits new a) (f.each a below) (g.each a below);
+  each = λ a below. stands_twice (zones a) between more (first a) (next a) g.kept (value_at bits old a) (value_at bits mid a) (value_at bits new a) (f.each a below) (g.each a below);
   kept = λ q h. g.kept q (f.kept q h);
   only = λ q h. elim (g.only q h) [
     | inl here ↦ elim (f.only q here) [
@@ -89,7 +89,7 @@ walks_twice bits zones first next old mid new asked between more f g = record {
       | inr by ↦ inr (record { address = by.address; counts = by.counts; within = by.within; live = by.live; asks = λ go. by.asks (λ b. next by.address b go) })
     ]
     | inr by ↦
-        let was = live_before zones between (first by.address) (value_at bits old by.address) (value_at bits mid by.address) by.counts by.live (f.each by.address by.within) in
+        let was = live_before (zones by.address) between (first by.address) (value_at bits old by.address) (value_at bits mid by.address) by.counts by.live (f.each by.address by.within) in
         inr (record {
           address = by.address;
           counts = was.0;
@@ -116,11 +116,11 @@ stands_alike zones asked first next None new same h = h
 stands_alike zones asked first next (Some s) None same h = h
 stands_alike zones asked first next (Some s) (Some u) same h = moves_alike zones asked first next s u same h
 
-pub walks_alike : (bits : ℕ) (zones : Answering) (first next : ℕ → Stretch) (old new : List (Cidr × State)) (asked more : List Question)
+pub walks_alike : (bits : ℕ) (zones : ℕ → Answering) (first next : ℕ → Stretch) (old new : List (Cidr × State)) (asked more : List Question)
     → ((a : ℕ) (c : Counts) (go : Counts → Run) → first a c go ≡ next a c go)
     → Walks bits zones next old new asked more → Walks bits zones first old new asked more
 walks_alike bits zones first next old new asked more same walks = record {
-  each = λ a below. stands_alike zones more (first a) (next a) (value_at bits old a) (value_at bits new a) (same a) (walks.each a below);
+  each = λ a below. stands_alike (zones a) more (first a) (next a) (value_at bits old a) (value_at bits new a) (same a) (walks.each a below);
   kept = walks.kept;
   only = λ q h. elim (walks.only q h) [
     | inl here ↦ inl here
@@ -129,7 +129,7 @@ walks_alike bits zones first next old new asked more same walks = record {
       counts = by.counts;
       within = by.within;
       live = by.live;
-      asks = λ go. subst (λ (run : Run). AsksFor zones run q) (sym (same by.address by.counts go)) (by.asks go);
+      asks = λ go. subst (λ (run : Run). AsksFor (zones by.address) run q) (sym (same by.address by.counts go)) (by.asks go);
     })
   ];
 }
@@ -143,10 +143,10 @@ stands_stepped : (zones : Answering) (asked : List Question) (stretch : Stretch)
 stands_stepped zones asked stretch step moves None new h = h
 stands_stepped zones asked stretch step moves (Some s) new h = subst (λ n. IsSomeAnd n (Moves zones asked stretch s)) (sym h) (moves s)
 
-pub walks_by_steps : (bits : ℕ) (zones : Answering) (stretch : ℕ → Stretch) (step : ℕ → State → State) (old new : List (Cidr × State)) (asked : List Question)
-    → ((a : ℕ) (s : State) → Moves zones asked (stretch a) s (step a s)) → StepsAt bits step old new → Walks bits zones stretch old new asked asked
+pub walks_by_steps : (bits : ℕ) (zones : ℕ → Answering) (stretch : ℕ → Stretch) (step : ℕ → State → State) (old new : List (Cidr × State)) (asked : List Question)
+    → ((a : ℕ) (s : State) → Moves (zones a) asked (stretch a) s (step a s)) → StepsAt bits step old new → Walks bits zones stretch old new asked asked
 walks_by_steps bits zones stretch step old new asked moves steps = record {
-  each = λ a below. stands_stepped zones asked (stretch a) (step a) (moves a) (value_at bits old a) (value_at bits new a) (steps a below);
+  each = λ a below. stands_stepped (zones a) asked (stretch a) (step a) (moves a) (value_at bits old a) (value_at bits new a) (steps a below);
   kept = λ q h. h;
   only = λ q h. inl h;
 }

@@ -15,14 +15,14 @@ abbrev pub run_at : (ℕ → Address) → RecordContext → ℕ → Run
 run_at address context a = check_host context.limits (address a) context.domain.now context.name.now
 
 -- some address of the family asks the question
-abbrev pub AskedBySome : (bits : ℕ) → Answering → (ℕ → Run) → Question → Type 0
-AskedBySome bits zones run question = (a : ℕ) × (a < 2 ^ bits) × AsksFor zones (run a) question
+abbrev pub AskedBySome : (bits : ℕ) → (ℕ → Answering) → (ℕ → Run) → Question → Type 0
+AskedBySome bits zones run question = (a : ℕ) × (a < 2 ^ bits) × AsksFor (zones a) (run a) question
 
 -- at each address stands how its run ends, and to the questions are added those that the runs ask
-pub record AreEndsOf (bits : ℕ) (zones : Answering) (run : ℕ → Run) (ends : List (Cidr × Outcome))
+pub record AreEndsOf (bits : ℕ) (zones : ℕ → Answering) (run : ℕ → Run) (ends : List (Cidr × Outcome))
     (asked more : List Question) : Type 0 where
   pub each : (a : ℕ) → a < 2 ^ bits → IsSomeAnd (value_at bits ends a)
-      (λ outcome. (counts : Counts) × EndsWith zones (run a) outcome counts)
+      (λ outcome. (counts : Counts) × EndsWith (zones a) (run a) outcome counts)
   pub kept : (question : Question) → Contains asked question → Contains more question
   pub only : (question : Question) → Contains more question → Contains asked question
       ⊎ AskedBySome bits zones run question

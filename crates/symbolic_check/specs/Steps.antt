@@ -1,5 +1,7 @@
 -- What a step of the walk makes of what stands at one address (the project's own form).
 use Rattle.std.specs.Prelude.{◌+◌, Bool, true, false, nat_le, Option, Some, None, if◌then◌else◌}
+use Rattle.zone_answers.specs.declared.class.Class.{Class}
+use Rattle.zone_answers.specs.declared.class.Class.TheVariants.{Hit, Void, Beyond, Round}
 use Rattle.spf_grammar.specs.declared.verdict.Verdict.{Verdict}
 use Rattle.spf_grammar.specs.declared.verdict.Verdict.TheVariants.{Neutral}
 use Rattle.spf_model.specs.declared.outcome.Counts.{Counts}
@@ -9,7 +11,7 @@ use Rattle.spf_model.specs.declared.outcome.Limits.{Limits}
 use Rattle.spf_model.specs.declared.outcome.Cause.TheVariants as cause
 use Rattle.spf_model.specs.declared.outcome.Place.{Place}
 use Rattle.spf_model.specs.declared.outcome.Outcome.{Outcome}
-use Rattle.spf_model.specs.declared.outcome.Outcome.TheVariants.{Is, Perm}
+use Rattle.spf_model.specs.declared.outcome.Outcome.TheVariants.{Is, Perm, Temp, Unsettled}
 use Rattle.symbolic_check.specs.declared.state.State.{State}
 use Rattle.symbolic_check.specs.declared.state.Purpose.{Purpose}
 use Rattle.symbolic_check.specs.declared.state.Purpose.TheVariants.{Include, Redirect}
@@ -48,6 +50,14 @@ abbrev pub after_failure : Outcome → State → State
 after_failure outcome (Live counts) = Failed outcome
 after_failure outcome (Decided verdict counts) = Decided verdict counts
 after_failure outcome (Failed other) = Failed other
+
+-- RFC 7208, sections 4.6.4 and 5.7: an `exists` that asks at the reversed name of each address, by the class of the
+-- answer there. One that leads out of the zones leaves the run open, and one that goes round is an error
+abbrev pub after_class : Limits → Place → Verdict → Class → State → State
+after_class limits place verdict Hit state = after_match verdict true state
+after_class limits place verdict Void state = after_void limits place true state
+after_class limits place verdict Beyond state = after_failure (Unsettled cause.Outside place) state
+after_class limits place verdict Round state = after_failure (Temp cause.Alias place) state
 
 -- RFC 7208, section 5.2: a record that is asked for is evaluated for the addresses that are live; the others stand
 -- there alike

@@ -8,8 +8,9 @@ use Rattle.spf_grammar.specs.declared.policy.Term.{Term}
 use Rattle.spf_model.specs.declared.outcome.Counts.{Counts}
 use Rattle.spf_model.specs.declared.outcome.Outcome.TheVariants.{Is}
 use Rattle.spf_model.specs.declared.context.RecordContext.{RecordContext}
+use Rattle.spf_model.specs.declared.gathered.Hosts.{Hosts}
 use Rattle.spf_model.specs.Run.{Run, Ends}
-use Rattle.spf_model.specs.Judging.{Judge, judge, judge_hosts, naming_target, is_pass, with_verdict}
+use Rattle.spf_model.specs.Judging.{Judge, gather_own, judge, judge_gathered, judge_hosts, naming_target, is_pass, with_verdict}
 use Rattle.spf_model.specs.Leads.{site_of}
 use Rattle.spf_model.specs.Check.{check, trying, tried, term_after, default, unless_matched}
 use Rattle.symbolic_check.specs.declared.state.Purpose.{Purpose}
@@ -28,6 +29,12 @@ term_stretch address context depth t term a counts go = trying (judges context d
 abbrev pub hosts_stretch : (ℕ → Address) → RecordContext → ℕ → Verdict → Mechanism → ℕ → Stretch
 hosts_stretch address context t verdict mechanism a counts go =
     judge_hosts (site_of context) (address a) t mechanism counts (unless_matched verdict go)
+
+-- RFC 7208, sections 4.6.4 and 5.7: what the hosts of a mechanism come to at an address, once they are found
+abbrev pub own_stretch : (ℕ → Address) → RecordContext → ℕ → Verdict → Mechanism → Hosts → ℕ → Stretch
+own_stretch address context t verdict mechanism hosts a counts go =
+    gather_own (site_of context) t hosts counts (λ gathered.
+    judge_gathered (site_of context) (address a) t mechanism gathered counts (unless_matched verdict go))
 
 -- terms, numbered from t
 abbrev pub terms_stretch : (ℕ → Address) → RecordContext → ℕ → ℕ → List Term → ℕ → Stretch

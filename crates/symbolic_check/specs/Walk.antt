@@ -1,16 +1,22 @@
 -- What a walk over a record says of one address (the project's own form; the record is RFC 7208's, section 4.6).
 use Rattle.std.specs.Prelude.{◌≡◌, false, ℕ, ◌^◌, ◌<◌, ◌⊎◌, List, Contains, IsSomeAnd, Some}
 use Rattle.addr_bits.specs.Prefix.{Cidr}
+use Rattle.addr_bits.specs.declared.address.Address.{Address}
+use Rattle.zone_answers.specs.Zone.{Zone}
 use Rattle.zone_answers.specs.declared.answer.Question.{Question}
 use Rattle.prefix_trie.specs.Leaves.{value_at}
 use Rattle.spf_model.specs.declared.outcome.Counts.{Counts}
 use Rattle.spf_model.specs.declared.outcome.Outcome.TheVariants.{Is}
-use Rattle.spf_model.specs.Run.{Run, Ends, Answering, AsksFor}
+use Rattle.spf_model.specs.Run.{Run, Ends, Answering, AsksFor, says}
 use Rattle.spf_model.specs.Leads.{NoVerdict}
 use Rattle.spf_model.specs.Settling.{Follows}
 use Rattle.symbolic_check.specs.declared.state.State.{State}
 use Rattle.symbolic_check.specs.Steps.{is_live}
 use Rattle.symbolic_check.specs.declared.state.State.TheVariants.{Live, Decided, Failed}
+
+-- what the lent zones say to each question for the address with this number
+abbrev pub says_at : (ℕ → Address) → List Zone → ℕ → Answering
+says_at address zones a = says zones (address a)
 
 -- a part of an evaluation, which is what comes after it led to a run
 abbrev pub Part : Type 0
@@ -36,20 +42,20 @@ Moves zones asked stretch (Decided verdict counts) new = new ≡ Decided verdict
 Moves zones asked stretch (Failed outcome) new = new ≡ Failed outcome
 
 -- the question is asked in the stretch by an address that is live at its begin
-pub record AskedBy (bits : ℕ) (zones : Answering) (stretch : ℕ → Stretch) (old : List (Cidr × State))
+pub record AskedBy (bits : ℕ) (zones : ℕ → Answering) (stretch : ℕ → Stretch) (old : List (Cidr × State))
     (question : Question) : Type 0 where
   pub address : ℕ
   pub counts : Counts
   pub within : address < 2 ^ bits
   pub live : value_at bits old address ≡ Some (Live counts)
-  pub asks : (go : Counts → Run) → AsksFor zones (stretch address counts go) question
+  pub asks : (go : Counts → Run) → AsksFor (zones address) (stretch address counts go) question
 
 -- a walk over a stretch for every address of a family: what stands at each address after it, and the questions that it
 -- adds
-pub record Walks (bits : ℕ) (zones : Answering) (stretch : ℕ → Stretch) (old new : List (Cidr × State))
+pub record Walks (bits : ℕ) (zones : ℕ → Answering) (stretch : ℕ → Stretch) (old new : List (Cidr × State))
     (asked more : List Question) : Type 0 where
   pub each : (a : ℕ) → a < 2 ^ bits → IsSomeAnd (value_at bits old a)
-      (λ state. IsSomeAnd (value_at bits new a) (Moves zones more (stretch a) state))
+      (λ state. IsSomeAnd (value_at bits new a) (Moves (zones a) more (stretch a) state))
   pub kept : (question : Question) → Contains asked question → Contains more question
   pub only : (question : Question) → Contains more question → Contains asked question
       ⊎ AskedBy bits zones stretch old question

@@ -8,7 +8,7 @@ ghost use Rattle.symbolic_check.specs.Keyed.{IsKeyOf};
 use std::alloc::{AllocError, Global};
 use std::collections::BTreeMap;
 use std::vec::Vec;
-use zone_answers::{QKind, Question, Questions};
+use zone_answers::{AskKind, Question, Questions};
 
 /// What questions are ordered by.
 #[derive(PartialEq, Eq, PartialOrd, Ord, Drop)]
@@ -20,14 +20,16 @@ struct Key {
 }
 
 /// The place of a kind among the kinds.
-fn number_of(kind: QKind) -> u32
+fn number_of(kind: AskKind) -> u32
     ensures { result ≡ kind_number kind }
 {
     match kind {
-        QKind::A => 0,
-        QKind::Aaaa => 1,
-        QKind::Mx => 2,
-        QKind::Txt => 3,
+        AskKind::A => 0,
+        AskKind::Aaaa => 1,
+        AskKind::Mx => 2,
+        AskKind::Txt => 3,
+        AskKind::Reverse4 => 4,
+        AskKind::Reverse6 => 5,
     }
 }
 
@@ -68,7 +70,7 @@ fn in_turn(alloc: Global, mut found: BTreeMap<Key, Question>) -> Result<Question
     Ok(questions)
 }
 
-/// The questions, each once, by the bytes of the printed name and then by A, AAAA, MX, TXT.
+/// The questions, each once, by the bytes of the printed name and then by A, AAAA, MX, TXT, REVERSE4, REVERSE6.
 pub(crate) fn in_order(alloc: Global, asked: Questions) -> Result<Questions, AllocError>
     ensures order { IfOk result IsInOrder }
     ensures same { IfOk result (λ questions. (question : Asked)

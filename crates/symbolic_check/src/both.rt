@@ -6,6 +6,7 @@ ghost use Rattle.spf_model.specs.Run.{says};
 ghost use Rattle.spf_model.specs.Result.{AreModest};
 ghost use Rattle.symbolic_check.specs.Evaluation.{IsEvaluation};
 ghost use Rattle.symbolic_check.specs.Families.{AreEndsOf, run_at};
+ghost use Rattle.symbolic_check.specs.Walk.{says_at};
 
 use crate::asked::in_order;
 use crate::state::State;
@@ -27,7 +28,7 @@ pub struct Both {
     /// The outcome at each IPv6 address.
     pub v6: TrieMap<u128, Ending>,
     /// Each question that the evaluation of some address asks, once, by the bytes of the printed name and then by A,
-    /// AAAA, MX, TXT.
+    /// AAAA, MX, TXT, REVERSE4, REVERSE6.
     pub asked: Questions,
 }
 
@@ -38,7 +39,7 @@ fn outcomes<W: NetworkFamily>(
 ) -> Result<TrieMap<W, Ending>, AllocError>
     requires family { context.now.family ≡ W.family }
     requires modest { AreModest context.now.limits }
-    ensures { IfOk result (λ ends. AreEndsOf W.BITS (says context.now.zones.now)
+    ensures { IfOk result (λ ends. AreEndsOf W.BITS (says_at (address_of W.family) context.now.zones.now)
         (run_at (address_of W.family) context.now) ends asked.old asked.new) }
 {
     let counts = Counts {

@@ -1,11 +1,10 @@
 //! The mechanisms that ask the DNS for hosts, for every address of a family (RFC 7208, sections 5.3, 5.4, 5.5 and 5.7).
 ghost use Rattle.addr_bits.specs.Address.{address_of};
-ghost use Rattle.std.specs.Prelude.{◌≡◌, ◌<◌, ◌≤◌, ◌^◌, ℕ, ◌++◌, List, Option, IfOk, OnOk, Some};
+ghost use Rattle.std.specs.Prelude.{◌≡◌, ◌<◌, ◌≤◌, ◌^◌, ℕ, ◌++◌, List, Option, IfOk, OnOk, Some, length};
 ghost use Rattle.std.specs.List.{flat_map};
 ghost use Rattle.prefix_trie.specs.Leaves.{value_at};
 ghost use Rattle.zone_answers.specs.Answers.{answer_bodies};
 ghost use Rattle.zone_answers.specs.declared.answer.Question.{Question as Asked};
-ghost use Rattle.spf_model.specs.Run.{says};
 ghost use Rattle.spf_model.specs.Judging as judging;
 ghost use Rattle.spf_model.specs.Check.{unless_matched};
 ghost use Rattle.spf_model.specs.Leads.{site_of, MechanismFits};
@@ -13,18 +12,22 @@ ghost use Rattle.spf_macros.specs.declared.piece.Piece.{Piece};
 ghost use Rattle.spf_grammar.specs.declared.verdict.Verdict.{Verdict as Given};
 ghost use Rattle.spf_grammar.specs.declared.policy.Term.TheVariants.{Directive};
 ghost use Rattle.spf_grammar.specs.declared.policy.Mechanism.TheVariants as mechanism;
-ghost use Rattle.symbolic_check.specs.Walk.{Walks};
-ghost use Rattle.symbolic_check.specs.Stretches.{hosts_stretch, term_stretch};
+ghost use Rattle.dns_name.specs.Wire.{wire_form};
+ghost use Rattle.spf_model.specs.declared.gathered.Hosts.TheVariants.{Reversed};
+ghost use Rattle.symbolic_check.specs.Walk.{SomeLive, Walks, says_at};
+ghost use Rattle.symbolic_check.specs.Stretches.{hosts_stretch, own_stretch, term_stretch};
 
 use crate::steps;
 use crate::steps::States;
 use addr_bits::Items;
+use dns_name::Name;
 use match_sets::match_family;
 use prefix_trie::TrieMap;
+use reverse_names::reverse_sets;
 use spf_grammar::{Mechanism, NetworkFamily, Verdict};
-use spf_model::{Cause, Gathered, Halt, Lens, Outcome, RecordContext};
+use spf_model::{Cause, Gathered, Halt, Hosts, Lens, Outcome, RecordContext};
 use std::alloc::{AllocError, Global};
-use zone_answers::{Answer, Bodies, Questions};
+use zone_answers::{Answer, AskKind, Bodies, Question, Questions};
 
 /// Moves the bodies that were found to the end of a list.
 fn move_bodies(answer: Answer, bodies: &mut Bodies) -> Result<(), AllocError>
@@ -93,7 +96,7 @@ fn count_lookup<W: NetworkFamily>(
     term: u32,
     states: &States<W>,
 ) -> Result<States<W>, AllocError>
-    ensures { IfOk result (λ new. (asked : List Asked) → Walks W.BITS (says context.now.zones.now)
+    ensures { IfOk result (λ new. (asked : List Asked) → Walks W.BITS (says_at (address_of W.family) context.now.zones.now)
         (λ a. judging.counted (site_of context.now) term) states.now new asked asked) }
 {
     steps::count_lookups(context.alloc, states, context.limits, &context.place(term))
@@ -110,7 +113,7 @@ fn match_gathered<W: NetworkFamily>(
     states: &States<W>,
 ) -> Result<States<W>, AllocError>
     requires { MechanismFits mechanism.now }
-    ensures { IfOk result (λ new. (asked : List Asked) → Walks W.BITS (says context.now.zones.now)
+    ensures { IfOk result (λ new. (asked : List Asked) → Walks W.BITS (says_at (address_of W.family) context.now.zones.now)
         (λ a counts go. judging.judge_gathered (site_of context.now) (address_of W.family a) term
         mechanism.now gathered counts (unless_matched verdict go)) states.now new asked asked) }
 {
@@ -121,8 +124,43 @@ fn match_gathered<W: NetworkFamily>(
     steps::match_set(context.alloc, &counted, verdict, &set)
 }
 
-/// A mechanism that asks for hosts, with its verdict: its lookup is counted, its answers are gathered once for all
-/// addresses, and then they are judged (RFC 7208, sections 4.6.4, 5.3, 5.4 and 5.7).
+/// An `exists` that asks each address at its reversed name below a suffix: the question is noted once for the family,
+/// and each answer counts by its class (RFC 7208, sections 4.6.4 and 5.7).
+fn match_reversed<W: NetworkFamily>(
+    context: &RecordContext<'_>,
+    term: u32,
+    verdict: Verdict,
+    suffix: Name,
+    states: &States<W>,
+    asked: &mut Questions,
+) -> Result<States<W>, AllocError>
+    requires family { context.now.family ≡ W.family }
+    requires short { length (wire_form suffix) ≤ 191 }
+    requires live { SomeLive W.BITS states.now }
+    ensures { IfOk result (λ new. (spec : List Piece)
+        → Walks W.BITS (says_at (address_of W.family) context.now.zones.now)
+        (own_stretch (address_of W.family) context.now term verdict (mechanism.Exists spec)
+        (Reversed suffix)) states.now new asked.old asked.new) }
+{
+    let classes = reverse_sets(context.alloc, context.zones, &suffix)?;
+    let question = Question {
+        name: suffix,
+        kind: AskKind::reversed(context.family),
+    };
+    asked.push(question)?;
+    let place = context.place(term);
+    steps::match_classes(
+        context.alloc,
+        states,
+        context.limits,
+        &place,
+        verdict,
+        &classes,
+    )
+}
+
+/// A mechanism that asks for hosts, with its verdict: its lookup is counted, what all addresses have in common is
+/// gathered once, and then each is judged (RFC 7208, sections 4.6.4, 5.3, 5.4 and 5.7).
 pub(crate) fn walk_hosts<W: NetworkFamily>(
     context: &RecordContext<'_>,
     term: u32,
@@ -131,8 +169,9 @@ pub(crate) fn walk_hosts<W: NetworkFamily>(
     states: States<W>,
     asked: &mut Questions,
 ) -> Result<States<W>, AllocError>
-    requires { MechanismFits mechanism.now }
-    ensures { IfOk result (λ new. Walks W.BITS (says context.now.zones.now)
+    requires family { context.now.family ≡ W.family }
+    requires fits { MechanismFits mechanism.now }
+    ensures { IfOk result (λ new. Walks W.BITS (says_at (address_of W.family) context.now.zones.now)
         (hosts_stretch (address_of W.family) context.now term verdict mechanism.now) states new asked.old asked.new) }
 {
     let counted = count_lookup(context, term, &states)?;
@@ -140,7 +179,12 @@ pub(crate) fn walk_hosts<W: NetworkFamily>(
         return Ok(counted);
     }
     match context.gather(term, mechanism, asked) {
-        Ok(gathered) => match_gathered(context, term, verdict, mechanism, gathered, &counted),
+        Ok(Hosts::Common(gathered)) => {
+            match_gathered(context, term, verdict, mechanism, gathered, &counted)
+        }
+        Ok(Hosts::Reversed(suffix)) => {
+            match_reversed(context, term, verdict, suffix, &counted, asked)
+        }
         Err(Halt::Ended(outcome)) => steps::fail(context.alloc, &counted, &outcome),
         Err(Halt::Memory) => Err(AllocError),
     }
@@ -153,7 +197,7 @@ pub(crate) fn walk_ptr<W: NetworkFamily>(
     states: States<W>,
 ) -> Result<States<W>, AllocError>
     ensures { IfOk result (λ new. (asked : List Asked) (depth : ℕ) (verdict : Given) (spec : Option (List Piece))
-        → Walks W.BITS (says context.now.zones.now)
+        → Walks W.BITS (says_at (address_of W.family) context.now.zones.now)
         (term_stretch (address_of W.family) context.now depth term
         (Directive verdict (mechanism.Ptr spec))) states new asked asked) }
 {

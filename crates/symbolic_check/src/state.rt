@@ -6,6 +6,7 @@ ghost use Rattle.symbolic_check.specs.Steps as step;
 use spf_grammar::Verdict;
 use spf_model::{Cause, Counts, Ending, Failure, Limits, Outcome, Place};
 use std::alloc::{AllocError, Global};
+use zone_answers::Class;
 
 /// What stands at an address in the midst of a record.
 #[derive(Clone, Drop, PartialEq, Eq)]
@@ -102,6 +103,30 @@ impl State {
         match self {
             State::Live(_) => failed(alloc, outcome.clone()?),
             _ => self.clone(),
+        }
+    }
+
+    /// What stands here after an `exists` that asks at the reversed name of the address, by the class of the answer
+    /// (RFC 7208, sections 4.6.4 and 5.7).
+    pub(crate) fn after_class(
+        &self,
+        alloc: Global,
+        limits: Limits,
+        place: &Place,
+        verdict: Verdict,
+        class: Class,
+    ) -> Result<State, AllocError>
+        ensures { IfOk result (λ state. state ≡ step.after_class limits place.now verdict class self.now) }
+    {
+        match class {
+            Class::Hit => self.after_match(verdict, true),
+            Class::Void => self.after_void(alloc, limits, place, true),
+            Class::Beyond => {
+                self.after_failure(alloc, &Outcome::Unsettled(Cause::Outside, place.clone()?))
+            }
+            Class::Round => {
+                self.after_failure(alloc, &Outcome::Temp(Cause::Alias, place.clone()?))
+            }
         }
     }
 

@@ -10,6 +10,7 @@ use prefix_trie::TrieMap;
 use spf_grammar::Verdict;
 use spf_model::{Ending, Limits, Outcome, Place};
 use std::alloc::{AllocError, Global};
+use zone_answers::Class;
 
 /// What stands at each address of a family in the midst of a record.
 pub(crate) type States<W> = TrieMap<W, State>;
@@ -82,6 +83,27 @@ pub(crate) fn match_set<W: Width>(
         states,
         set,
         |state, matches| state.after_match(verdict, *matches),
+    )
+}
+
+/// An `exists` that asks at the reversed name of each address, by the classes of the answers (RFC 7208, sections 4.6.4
+/// and 5.7).
+pub(crate) fn match_classes<W: Width>(
+    alloc: Global,
+    states: &States<W>,
+    limits: Limits,
+    place: &Place,
+    verdict: Verdict,
+    classes: &TrieMap<W, Class>,
+) -> Result<States<W>, AllocError>
+    ensures { IfOk result (λ new. StepsWith W.BITS (step.after_class limits place.now verdict)
+        classes.now states.now new) }
+{
+    TrieMap::combine(
+        alloc,
+        states,
+        classes,
+        |state, class| state.after_class(alloc, limits, place, verdict, *class),
     )
 }
 

@@ -5,11 +5,10 @@ ghost use Rattle.std.specs.Prelude.{◌≡◌, ◌-◌, ◌≤◌, ℕ, true, Li
 ghost use Rattle.std.specs.List.{list_all};
 ghost use Rattle.zone_answers.specs.declared.answer.Question.{Question};
 ghost use Rattle.spf_grammar.specs.declared.policy.Term.{Term as GivenTerm};
-ghost use Rattle.spf_model.specs.Run.{says};
 ghost use Rattle.spf_model.specs.Check.{redirect_from};
 ghost use Rattle.spf_model.specs.Leads.{TargetFits, TermFits, TermsFit};
 ghost use Rattle.symbolic_check.specs.Networks as networks;
-ghost use Rattle.symbolic_check.specs.Walk.{Walks};
+ghost use Rattle.symbolic_check.specs.Walk.{Walks, says_at};
 ghost use Rattle.symbolic_check.specs.Stretches.{number_after, term_stretch, terms_stretch, default_stretch, record_stretch, target_stretch, reached_stretch};
 
 use crate::hosts::{walk_hosts, walk_ptr};
@@ -42,7 +41,7 @@ fn walk_row<W: NetworkFamily>(
     states: States<W>,
 ) -> Result<States<W>, AllocError>
     requires { list_all networks.is_row_term row.now ≡ true }
-    ensures { IfOk result (λ new. (depth t : ℕ) (asked : List Question) → Walks W.BITS (says context.now.zones.now)
+    ensures { IfOk result (λ new. (depth t : ℕ) (asked : List Question) → Walks W.BITS (says_at (address_of W.family) context.now.zones.now)
         (terms_stretch (address_of W.family) context.now depth t row.now) states new asked asked) }
 {
     if !steps::is_some_live(&states) {
@@ -64,10 +63,10 @@ fn pass_row<W: NetworkFamily>(
     requires within { end ≤ length terms.now }
     requires row { list_all networks.is_row_term (take (end - start) (drop start terms.now)) ≡ true }
     ensures { IfOk result (λ mid. (depth t : ℕ) (rest : List GivenTerm) (new : _) (asked more : List Question)
-        → Walks W.BITS (says context.now.zones.now)
+        → Walks W.BITS (says_at (address_of W.family) context.now.zones.now)
         (terms_stretch (address_of W.family) context.now depth
         (number_after t (end - start)) rest) mid new asked more
-        → Walks W.BITS (says context.now.zones.now)
+        → Walks W.BITS (says_at (address_of W.family) context.now.zones.now)
         (terms_stretch (address_of W.family) context.now depth t
         (take (end - start) (drop start terms.now) ++ rest)) states new asked more) }
 {
@@ -86,7 +85,7 @@ fn end_row<W: NetworkFamily>(
 ) -> Result<States<W>, AllocError>
     requires within { start ≤ length terms.now }
     requires row { list_all networks.is_row_term (drop start terms.now) ≡ true }
-    ensures { IfOk result (λ new. (depth t : ℕ) (asked : List Question) → Walks W.BITS (says context.now.zones.now)
+    ensures { IfOk result (λ new. (depth t : ℕ) (asked : List Question) → Walks W.BITS (says_at (address_of W.family) context.now.zones.now)
         (terms_stretch (address_of W.family) context.now depth t (drop start terms.now)) states new asked asked) }
 {
     walk_row(context, &terms[start..], states)
@@ -105,7 +104,7 @@ fn reach_target<W: NetworkFamily>(
 ) -> Result<States<W>, AllocError>
     requires family { context.now.family ≡ W.family }
     requires target { TargetFits (Some spec.now) }
-    ensures { IfOk result (λ new. Walks W.BITS (says context.now.zones.now)
+    ensures { IfOk result (λ new. Walks W.BITS (says_at (address_of W.family) context.now.zones.now)
         (reached_stretch (address_of W.family) context.now depth term spec.now) states new asked.old asked.new) }
 {
     if !steps::is_some_live(&states) {
@@ -138,7 +137,7 @@ pub(crate) fn walk_target<W: NetworkFamily>(
 ) -> Result<States<W>, AllocError>
     requires family { context.now.family ≡ W.family }
     requires target { TargetFits (Some spec.now) }
-    ensures { IfOk result (λ new. Walks W.BITS (says context.now.zones.now)
+    ensures { IfOk result (λ new. Walks W.BITS (says_at (address_of W.family) context.now.zones.now)
         (target_stretch (address_of W.family) context.now depth term spec.now purpose) states new asked.old asked.new) }
 {
     let place = context.place(term);
@@ -159,7 +158,7 @@ pub(crate) fn walk_term<W: NetworkFamily>(
 ) -> Result<States<W>, AllocError>
     requires family { context.now.family ≡ W.family }
     requires fits { TermFits term.now }
-    ensures { IfOk result (λ new. Walks W.BITS (says context.now.zones.now)
+    ensures { IfOk result (λ new. Walks W.BITS (says_at (address_of W.family) context.now.zones.now)
         (term_stretch (address_of W.family) context.now depth number term.now) states new asked.old asked.new) }
 {
     let Term::Directive(verdict, mechanism) = term else {
@@ -191,7 +190,7 @@ pub(crate) fn walk_terms<W: NetworkFamily>(
 ) -> Result<States<W>, AllocError>
     requires family { context.now.family ≡ W.family }
     requires fit { TermsFit terms.now }
-    ensures { IfOk result (λ new. Walks W.BITS (says context.now.zones.now)
+    ensures { IfOk result (λ new. Walks W.BITS (says_at (address_of W.family) context.now.zones.now)
         (terms_stretch (address_of W.family) context.now depth 1 terms.now) states new asked.old asked.new) }
 {
     let mut walked = states;
@@ -223,7 +222,7 @@ fn walk_default<W: NetworkFamily>(
 ) -> Result<States<W>, AllocError>
     requires family { context.now.family ≡ W.family }
     requires fit { TermsFit terms.now }
-    ensures { IfOk result (λ new. Walks W.BITS (says context.now.zones.now)
+    ensures { IfOk result (λ new. Walks W.BITS (says_at (address_of W.family) context.now.zones.now)
         (default_stretch (address_of W.family) context.now depth
         (redirect_from 1 terms.now)) states new asked.old asked.new) }
 {
@@ -247,7 +246,7 @@ pub(crate) fn walk_record<W: NetworkFamily>(
     asked: &mut Questions,
 ) -> Result<States<W>, AllocError>
     requires { context.now.family ≡ W.family }
-    ensures { IfOk result (λ new. Walks W.BITS (says context.now.zones.now)
+    ensures { IfOk result (λ new. Walks W.BITS (says_at (address_of W.family) context.now.zones.now)
         (record_stretch (address_of W.family) context.now depth) states new asked.old asked.new) }
 {
     if depth == 0 {

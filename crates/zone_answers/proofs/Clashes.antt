@@ -14,17 +14,16 @@ use Rattle.std.proofs.lemmas.List.{take_all}
 use Rattle.std.proofs.lemmas.List.Elements.{All-more, All-weaker, All-contains, Contains-get_or, Contains-append_right}
 use Rattle.std.proofs.lemmas.List.Folds.{list_any-append}
 use Rattle.dns_name.specs.Printed.{name_cmp, printed_name}
-use Rattle.dns_name.specs.Name.{is_under}
-use Rattle.dns_name.proofs.Names.{same_name_decides, under_itself}
+use Rattle.dns_name.proofs.Names.{same_name_decides}
 use Rattle.master_reader.specs.declared.record.Body.{Body}
 use Rattle.master_reader.specs.declared.record.Body.TheVariants.{A, Aaaa, Mx, Txt, Cname, Ns, Other}
 use Rattle.master_reader.specs.declared.record.Record.{Record}
 use Rattle.zone_answers.specs.declared.node.Node.{Node}
 use Rattle.zone_answers.specs.Zone.{Zone}
 use Rattle.zone_answers.specs.Same.{same_name}
-use Rattle.zone_answers.specs.Answers.{bodies_at, target_of, has_record}
+use Rattle.zone_answers.specs.Answers.{bodies_at, target_of}
 use Rattle.zone_answers.specs.Lend.{bodies_clash, has_clash, IsLeastClash, IsLesser}
-use Rattle.zone_answers.specs.Index.{body_at, bodies_at_places, first_of, places_from, summary, IsIndex}
+use Rattle.zone_answers.specs.Index.{body_at, bodies_at_places, first_of, has_owner, places_from, summary, IsIndex}
 use Rattle.zone_answers.proofs.Places.{bodies_by_places, bodies_more, bodies_behind, bodies_all}
 
 -- ---- bodies of one owner
@@ -157,7 +156,7 @@ less_first Equal x y xs ys e = ap (λ p. is_lt (ordering_then p (slice_cmp nat_c
 less_first Greater x y xs ys e = ap (λ p. is_lt (ordering_then p (slice_cmp nat_cmp xs ys))) (sym e)
 
 -- what `<` of two texts says
-texts_less : (xs ys a b : List ℕ) (r : Bool) → r ≡ is_some_and is_lt (slice_partial_cmp (λ x y. Some (nat_cmp x y)) xs ys) → xs ≡ a → ys ≡ b → r ≡ is_lt (slice_cmp nat_cmp a b)
+pub texts_less : (xs ys a b : List ℕ) (r : Bool) → r ≡ is_some_and is_lt (slice_partial_cmp (λ x y. Some (nat_cmp x y)) xs ys) → xs ≡ a → ys ≡ b → r ≡ is_lt (slice_cmp nat_cmp a b)
 texts_less xs ys a b r h e f =
     same_from_slice_cmp_tested nat_cmp is_lt (λ x y. is_lt (slice_cmp nat_cmp x y)) refl (λ _ _. refl) (λ _ _. refl) (λ x y us vs o k. less_first o x y us vs k) xs ys r h
     ∙ ap₂ (λ (x y : List ℕ). is_lt (slice_cmp nat_cmp x y)) e f
@@ -235,15 +234,14 @@ step_quiet zone least more name names i lt e c h is =
 any_of_none : (owner : List (List ℕ)) (bodies : List Body) → bodies ≡ [] → list_any (λ b. list_any (bodies_clash b) bodies) bodies ≡ false
 any_of_none owner bodies e = ap (λ (l : List Body). list_any (λ b. list_any (bodies_clash b) l) l) e
 
-own_none-one : (r : Record) (owner : List (List ℕ)) (rest : List Record) (t u : Bool) → same_name r.owner owner ≡ t → is_under r.owner owner ≡ u → u || has_record rest owner ≡ false
-    → (has_record rest owner ≡ false → filter (λ s. same_name s.owner owner) rest ≡ []) → cond t (r ∷ filter (λ s. same_name s.owner owner) rest) (filter (λ s. same_name s.owner owner) rest) ≡ []
-own_none-one r owner rest t true et eu h more = absurd (true≢false h)
-own_none-one r owner rest true false et eu h more = absurd (true≢false (sym (under_itself r.owner owner ((same_name_decides r.owner owner).0 et)) ∙ eu))
-own_none-one r owner rest false false et eu h more = more h
+own_none-one : (r : Record) (owner : List (List ℕ)) (rest : List Record) (t : Bool) → t || has_owner rest owner ≡ false
+    → (has_owner rest owner ≡ false → filter (λ s. same_name s.owner owner) rest ≡ []) → cond t (r ∷ filter (λ s. same_name s.owner owner) rest) (filter (λ s. same_name s.owner owner) rest) ≡ []
+own_none-one r owner rest true h more = absurd (true≢false h)
+own_none-one r owner rest false h more = more h
 
-own_none : (records : List Record) (owner : List (List ℕ)) → has_record records owner ≡ false → filter (λ s. same_name s.owner owner) records ≡ []
+own_none : (records : List Record) (owner : List (List ℕ)) → has_owner records owner ≡ false → filter (λ s. same_name s.owner owner) records ≡ []
 own_none [] owner h = refl
-own_none (r ∷ records) owner h = own_none-one r owner records (same_name r.owner owner) (is_under r.owner owner) refl refl h (own_none records owner)
+own_none (r ∷ records) owner h = own_none-one r owner records (same_name r.owner owner) h (own_none records owner)
 
 key_there : (nodes : List (List (List ℕ) × Node)) (owner : List (List ℕ)) → IsSome (lookup (same_name owner) nodes) → Contains (keys_of nodes) owner
 key_there [] owner h = absurd cc
@@ -254,9 +252,9 @@ key_there (e ∷ nodes) owner h = by (same_name owner e.0) refl h (key_there nod
     by false is k more = Contains-append_right (e.0 ∷ []) (keys_of nodes) owner (more k)
 
 clash_indexed : (zone : Zone) (nodes : List (List (List ℕ) × Node)) (owner : List (List ℕ)) → IsIndex zone.records nodes → has_clash zone owner ≡ true → Contains (keys_of nodes) owner
-clash_indexed zone nodes owner index h = by (has_record zone.records owner) refl
+clash_indexed zone nodes owner index h = by (has_owner zone.records owner) refl
   where
-    by : (t : Bool) → has_record zone.records owner ≡ t → Contains (keys_of nodes) owner
+    by : (t : Bool) → has_owner zone.records owner ≡ t → Contains (keys_of nodes) owner
     by false e = absurd (true≢false (sym h ∙ any_of_none owner (bodies_at zone owner) (ap (map (λ r. r.body)) (own_none zone.records owner e))))
     by true e = key_there nodes owner (ap is_some (index.at owner ∙ ap (λ b. if b then Some (summary zone.records owner) else None) e))
 

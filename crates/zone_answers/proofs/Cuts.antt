@@ -9,8 +9,8 @@ use Rattle.master_reader.specs.declared.record.Record.{Record}
 use Rattle.zone_answers.specs.declared.node.Node.{Node}
 use Rattle.zone_answers.specs.Zone.{Zone}
 use Rattle.zone_answers.specs.Same.{same_name}
-use Rattle.zone_answers.specs.Answers.{is_delegation, is_cut_off, name_exists, closest_above, has_record}
-use Rattle.zone_answers.specs.Index.{places_from, has_delegation, summary, IsIndex}
+use Rattle.zone_answers.specs.Answers.{is_delegation, is_cut_off, name_exists, closest_above}
+use Rattle.zone_answers.specs.Index.{places_from, has_delegation, has_owner, summary, IsIndex}
 use Rattle.zone_answers.proofs.Nodes.{at, same_true, same_self, same_not}
 use Rattle.zone_answers.proofs.Indexes.{no_place}
 
@@ -22,7 +22,7 @@ not_there false node e = refl
 
 pub none_here : (records : List Record) (nodes : List (List (List ℕ) × Node)) (name : List (List ℕ)) → IsIndex records nodes → None ≡ at nodes name
     → (places_from 0 records name ≡ []) × (has_delegation records name ≡ false)
-none_here records nodes name index none = no_place 0 records name (not_there (has_record records name) (summary records name) (none ∙ index.at name))
+none_here records nodes name index none = no_place 0 records name (not_there (has_owner records name) (summary records name) (none ∙ index.at name))
 
 -- ---- tests over lists
 
@@ -43,13 +43,16 @@ any_same-one : (p f g ps fs gs : Bool) → p || ps ≡ false → (p ≡ false �
 any_same-one true f g ps fs gs h e es = absurd (true≢false h)
 any_same-one false f g ps fs gs h e es = ap₂ (λ (a b : Bool). a || b) (e refl) (es h)
 
-any_same : {X : Type 0} (p f g : X → Bool) (xs : List X) → list_any p xs ≡ false → ((x : X) → p x ≡ false → f x ≡ g x) → list_any f xs ≡ list_any g xs
+pub any_same : {X : Type 0} (p f g : X → Bool) (xs : List X) → list_any p xs ≡ false → ((x : X) → p x ≡ false → f x ≡ g x) → list_any f xs ≡ list_any g xs
 any_same p f g [] h e = refl
 any_same p f g (x ∷ xs) h e = any_same-one (p x) (f x) (g x) (list_any p xs) (list_any f xs) (list_any g xs) h (e x) (λ k. any_same p f g xs k e)
 
+pub none_also : {X : Type 0} (p q : X → Bool) (xs : List X) → ((x : X) → p x ≡ false → q x ≡ false) → list_any p xs ≡ false → list_any q xs ≡ false
+none_also p q xs sub h = any_same p q (λ x. false) xs h sub ∙ any_none (λ x. false) xs (λ x. refl)
+
 -- ---- delegations
 
-abbrev cuts : Zone → List (List ℕ) → Record → Bool
+abbrev pub cuts : Zone → List (List ℕ) → Record → Bool
 cuts zone name r = is_delegation r.body && is_under name r.owner && is_under r.owner zone.origin && not (same_name r.owner zone.origin)
 
 both_ways : (a b : List (List ℕ)) → IsUnder a b → IsUnder b a → a ≡ b
@@ -64,6 +67,15 @@ at_top false u w n h = refl
 at_top true false w n h = refl
 at_top true true false n h = refl
 at_top true true true n h = h refl refl
+
+no_cut-one : (d u w n : Bool) → d ≡ false → (d && u && w && n) ≡ false
+no_cut-one d u w n h = ap (λ b. b && u && w && n) h
+
+-- no record delegates
+pub no_cut : (zone : Zone) (name : List (List ℕ)) → list_any (λ r. is_delegation r.body) zone.records ≡ false → is_cut_off zone name ≡ false
+no_cut zone name h =
+    none_also (λ (r : Record). is_delegation r.body) (cuts zone name) zone.records
+    (λ r d. no_cut-one (is_delegation r.body) (is_under name r.owner) (is_under r.owner zone.origin) (not (same_name r.owner zone.origin)) d) h
 
 pub cut_at_origin : (zone : Zone) (name : List (List ℕ)) → name ≡ zone.origin → is_cut_off zone name ≡ false
 cut_at_origin zone name e = any_none (cuts zone name) zone.records (λ r. at_top (is_delegation r.body) (is_under name r.owner) (is_under r.owner zone.origin) (not (same_name r.owner zone.origin))
@@ -84,7 +96,7 @@ cut_here zone name under apart h = any_also (λ r. same_name r.owner name && is_
     (under_itself name r.owner (sym o), ap (λ (n : List (List ℕ)). is_under n zone.origin) o ∙ (under_decides name zone.origin).1 under, ap not (ap (λ (n : List (List ℕ)). same_name n zone.origin) o ∙ apart))))
     h
 
-above-one : (d s u v w n : Bool) → (s && d) ≡ false → (s ≡ false → u ≡ v) → (d && u && w && n) ≡ (d && v && w && n)
+pub above-one : (d s u v w n : Bool) → (s && d) ≡ false → (s ≡ false → u ≡ v) → (d && u && w && n) ≡ (d && v && w && n)
 above-one false s u v w n h f = refl
 above-one true true u v w n h f = absurd (true≢false h)
 above-one true false u v w n h f = ap (λ b. b && w && n) (f refl)
@@ -122,14 +134,14 @@ star_name label rest n =
 star_root : IsName ((42 ∷ []) ∷ [])
 star_root = record { labels = ((omega arith, omega arith), tt); octets = ((omega arith, tt), tt); lower = refl; short = omega arith }
 
-abbrev Star : List (List ℕ) → Type 0
+abbrev pub Star : List (List ℕ) → Type 0
 Star name = IsName ((42 ∷ []) ∷ name)
 
-star_choice : (t : Bool) (near above : List (List ℕ)) → Star near → Star above → Star (if t then near else above)
+pub star_choice : (t : Bool) (near above : List (List ℕ)) → Star near → Star above → Star (if t then near else above)
 star_choice true near above a b = a
 star_choice false near above a b = b
 
-star_closest : (zone : Zone) (name : List (List ℕ)) → IsName name → Star (closest_above zone name)
+pub star_closest : (zone : Zone) (name : List (List ℕ)) → IsName name → Star (closest_above zone name)
 star_closest zone [] n = star_root
 star_closest zone (label ∷ rest) n = star_choice (name_exists zone rest) rest (closest_above zone rest) (star_name label rest n) (star_closest zone rest (tail_name label rest n))
 
@@ -145,4 +157,4 @@ there_is true node found e = cc
 there_is false node found e = absurd cc
 
 pub node_is : (records : List Record) (nodes : List (List (List ℕ) × Node)) (name : List (List ℕ)) (found : Node) → IsIndex records nodes → Some found ≡ at nodes name → found ≡ summary records name
-node_is records nodes name found index e = there_is (has_record records name) (summary records name) found (e ∙ index.at name)
+node_is records nodes name found index e = there_is (has_owner records name) (summary records name) found (e ∙ index.at name)

@@ -12,7 +12,7 @@ use Rattle.zone_answers.specs.Zone.{Zone}
 use Rattle.zone_answers.specs.Same.{same_name}
 use Rattle.zone_answers.specs.Answers.{zone_of, or_above, in_zone, at_node, answer_at, answer_of_bodies, answer_of, bodies_at, is_cut_off, node_of, target_of, is_of}
 use Rattle.zone_answers.specs.Lend.{AreLendable, AreZones, IsBodyFit}
-use Rattle.zone_answers.proofs.Holding.{within, within_first, within_more, within_none}
+use Rattle.zone_answers.proofs.Holding.{within, eight_steps, within_first, within_more, within_none}
 
 -- an answer with bodies has fit ones
 abbrev IsFit : Answer → Type 0
@@ -80,4 +80,4 @@ fit_within (suc n) zones name kind h =
     (fit_zone kind (λ target. within n zones target kind) name (zone_of zones name) (λ target. fit_within n zones target kind h) (zone_lends zones name h))
 
 pub found_fit : (zones : List Zone) (name : List (List ℕ)) (kind : QKind) (bodies : List Body) → AreZones zones → answer_of zones name kind ≡ Found bodies → AllByRecursion IsBodyFit bodies
-found_fit zones name kind bodies h e = subst IsFit (sym (within_first zones name kind) ∙ e) (fit_within 9 zones name kind h.lendable)
+found_fit zones name kind bodies h e = subst IsFit (sym (sym (eight_steps zones name kind) ∙ within_first 8 9 zones name kind refl) ∙ e) (fit_within 9 zones name kind h.lendable)

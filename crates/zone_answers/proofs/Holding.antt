@@ -11,7 +11,10 @@ use Rattle.zone_answers.specs.Zone.{Zone}
 use Rattle.zone_answers.specs.Same.{same_name}
 use Rattle.zone_answers.specs.Answers.{zone_of, or_above, in_zone, answer_within, answer_of, target_of, bodies_at}
 use Rattle.zone_answers.specs.Names.{has_own_alias, is_taken, has_record_under, bodies_in}
-use Rattle.zone_answers.specs.Index.{first_of}
+use Rattle.zone_answers.specs.declared.answer.Step.{Step}
+use Rattle.zone_answers.specs.declared.answer.Step.TheVariants.{Known, Alias}
+use Rattle.zone_answers.specs.Index.{first_of, outcome_of}
+use Rattle.zone_answers.specs.Reversed.{answer_below, below_in_zone}
 use Rattle.zone_answers.proofs.Nodes.{same_true}
 
 abbrev at_origin : List Zone → List (List ℕ) → Option Zone
@@ -25,7 +28,7 @@ found_one : (test : Zone → Bool) (z zone : Zone) (rest : Option Zone) (t : Boo
 found_one test z zone rest true is e more = let same : z ≡ zone = cc in ap test (sym same) ∙ is
 found_one test z zone rest false is e more = more e
 
-found_passes : (test : Zone → Bool) (zones : List Zone) (zone : Zone) → find test zones ≡ Some zone → test zone ≡ true
+pub found_passes : (test : Zone → Bool) (zones : List Zone) (zone : Zone) → find test zones ≡ Some zone → test zone ≡ true
 found_passes test [] zone e = absurd cc
 found_passes test (z ∷ zones) zone e = found_one test z zone (find test zones) (test z) refl e (found_passes test zones zone)
 
@@ -55,9 +58,13 @@ unfolding within
 within_is zero zones name kind = refl
 within_is (suc n) zones name kind = λ i. in_zone kind (λ target. within_is n zones target kind i) name (zone_of zones name)
 
-pub within_first : (zones : List Zone) (name : List (List ℕ)) (kind : QKind) → answer_of zones name kind ≡ within 9 zones name kind
+pub within_first : (n k : ℕ) (zones : List Zone) (name : List (List ℕ)) (kind : QKind) → suc n ≡ k → answer_within n zones name kind ≡ within k zones name kind
+within_first n k zones name kind e = sym (within_is n zones name kind) ∙ ap (λ m. within m zones name kind) e
+
+-- the answer of 8 steps
+pub eight_steps : (zones : List Zone) (name : List (List ℕ)) (kind : QKind) → answer_within 8 zones name kind ≡ answer_of zones name kind
 unfolding answer_of
-within_first zones name kind = sym (within_is 8 zones name kind)
+eight_steps zones name kind = refl
 
 pub within_more : (k m : ℕ) (zones : List Zone) (name : List (List ℕ)) (kind : QKind) → k ≡ suc m → within k zones name kind ≡ in_zone kind (λ target. within m zones target kind) name (zone_of zones name)
 unfolding within
@@ -88,3 +95,18 @@ copied_some (Some x) = refl
 
 pub taken_is : (zones : List Zone) (name : List (List ℕ)) (held under : Bool) → held ≡ has_record_under (zone_of zones name) name → under ≡ list_any (λ z. is_under z.origin name) zones → held ≡ false → under ≡ is_taken zones name
 taken_is zones name held under h u f = ap₂ (λ (a b : Bool). a || b) (sym f ∙ h) u
+
+-- ---- the answer below a name
+
+pub below_known : (zones : List Zone) (name : List (List ℕ)) (kind : QKind) (step : Step) (answer : Answer)
+    → ((follow : List (List ℕ) → Answer) → outcome_of follow step ≡ below_in_zone kind follow name (zone_of zones name)) → step ≡ Known answer → answer ≡ answer_below zones name kind
+unfolding answer_below
+below_known zones name kind step answer h e =
+    let follow : List (List ℕ) → Answer = λ target. answer_within 7 zones target kind in sym (sym (h follow) ∙ ap (outcome_of follow) e)
+
+pub below_alias : (zones : List Zone) (name target : List (List ℕ)) (kind : QKind) (step : Step) (answer : Answer)
+    → ((follow : List (List ℕ) → Answer) → outcome_of follow step ≡ below_in_zone kind follow name (zone_of zones name)) → step ≡ Alias target
+    → answer ≡ answer_within 7 zones target kind → answer ≡ answer_below zones name kind
+unfolding answer_below
+below_alias zones name target kind step answer h e is =
+    let follow : List (List ℕ) → Answer = λ n. answer_within 7 zones n kind in is ∙ sym (sym (h follow) ∙ ap (outcome_of follow) e)

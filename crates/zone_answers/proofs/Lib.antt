@@ -10,3 +10,9 @@ pub mod Lending
 pub mod Texts
 pub mod Reading
 pub mod Fit
+pub mod Bare
+pub mod Reversals
+pub mod Listing
+pub mod Keys
+pub mod Orders
+pub mod Deepest

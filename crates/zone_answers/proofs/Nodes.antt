@@ -1,8 +1,7 @@
--- The names of a zone: one more name, and the names at or above it.
-use Rattle.std.proofs.Common.{◌≡◌, ℕ, Bool, true, false, cond, List, [], ◌∷◌, Option, None, Some, is_some, refl, sym, ap, ◌∙◌, true≢false}
+-- The owners of a zone: one more name.
+use Rattle.std.proofs.Common.{◌≡◌, ℕ, Bool, true, false, cond, List, Option, None, Some, is_some, refl, sym, ap, ◌∙◌, true≢false}
 use Rattle.std.specs.Map.{lookup}
-use Rattle.dns_name.specs.Name.{is_under, parent_of}
-use Rattle.dns_name.proofs.Names.{same_name_decides, under_itself, parent_under}
+use Rattle.dns_name.proofs.Names.{same_name_decides}
 use Rattle.zone_answers.specs.declared.node.Node.{Node}
 use Rattle.zone_answers.specs.Same.{same_name}
 use Rattle.zone_answers.specs.Index.{filled, empty_node}
@@ -43,20 +42,3 @@ filled_new old new added name h is = by (same_name added name) refl is
     by : (t : Bool) → same_name added name ≡ t → at new name ≡ cond t (Some empty_node) (at old name) → at new name ≡ filled t (at old name)
     by false e i = i
     by true e i = i ∙ filled_none (at old name) (ap (λ n. is_some (at old n)) (sym (same_true added name e)) ∙ h)
-
--- the names at or above a name are the name itself and those at or above its parent
-pub filled_above : (added above name : List (List ℕ)) (o : Option Node) → parent_of added ≡ Some above → filled (is_under above name) (filled (same_name added name) o) ≡ filled (is_under added name) o
-filled_above [] above name o p = absurd cc
-filled_above (label ∷ rest) above name o p = ap (λ a. filled (is_under a name) (filled (same_name (label ∷ rest) name) o)) (sym tail) ∙ by (same_name (label ∷ rest) name) refl
-  where
-    tail : rest ≡ above
-    tail = cc
-
-    twice : (t : Bool) (u : Bool) → u ≡ true → filled t (filled true o) ≡ filled u o
-    twice true true e = refl
-    twice false true e = refl
-    twice t false e = absurd (true≢false (sym e))
-
-    by : (t : Bool) → same_name (label ∷ rest) name ≡ t → filled (is_under rest name) (filled t o) ≡ filled (is_under (label ∷ rest) name) o
-    by true e = twice (is_under rest name) (is_under (label ∷ rest) name) (under_itself (label ∷ rest) name (same_true (label ∷ rest) name e))
-    by false e = ap (λ t. filled t o) (sym (parent_under label rest name (same_not (label ∷ rest) name e)))

@@ -1,5 +1,5 @@
 -- How the names of a zone are found. All of it is the project's own.
-use Rattle.std.specs.Prelude.{◌≡◌, ℕ, suc, ◌≤◌, Bool, true, false, ◌&&◌, List, [], ◌∷◌, length, Option, Some, None, filter_map, slice_get, option_map, if◌then◌else◌}
+use Rattle.std.specs.Prelude.{◌≡◌, ℕ, suc, ◌≤◌, Bool, true, false, ◌&&◌, ◌||◌, List, [], ◌∷◌, length, Option, Some, None, filter_map, slice_get, option_map, nat_lt, if◌then◌else◌}
 use Rattle.std.specs.List.{list_any}
 use Rattle.std.specs.Map.{lookup}
 use Rattle.std.specs.Option.{unwrap_or}
@@ -9,9 +9,14 @@ use Rattle.zone_answers.specs.declared.answer.Answer.{Answer}
 use Rattle.zone_answers.specs.declared.answer.Step.{Step}
 use Rattle.zone_answers.specs.declared.answer.Step.TheVariants.{Known, Alias}
 use Rattle.zone_answers.specs.declared.node.Node.{Node}
+use Rattle.zone_answers.specs.declared.zone.Lent.{Lent}
+use Rattle.zone_answers.specs.declared.zone.Lent.TheVariants.{All, Parts}
 use Rattle.zone_answers.specs.Zone.{Zone}
 use Rattle.zone_answers.specs.Same.{same_name, distinct_records}
-use Rattle.zone_answers.specs.Answers.{has_record, is_delegation, target_of}
+use Rattle.zone_answers.specs.declared.order.Entry.{Entry}
+use Rattle.dns_name.specs.Name.{is_under}
+use Rattle.zone_answers.specs.Answers.{is_delegation, target_of}
+use Rattle.zone_answers.specs.Order.{ArePlaced, AreSorted}
 use Rattle.zone_answers.specs.Lend.{AreLendable}
 
 -- the places of the records with this owner, where the first record of the list has this place
@@ -24,14 +29,18 @@ places_from place (r ∷ records) name =
 abbrev pub has_delegation : List Record → List (List ℕ) → Bool
 has_delegation records name = list_any (λ r. same_name r.owner name && is_delegation r.body) records
 
+-- whether a record has this owner
+abbrev pub has_owner : List Record → List (List ℕ) → Bool
+has_owner records name = list_any (λ r. same_name r.owner name) records
+
 -- what stands at a name
 abbrev pub summary : List Record → List (List ℕ) → Node
 summary records name = record { places = places_from 0 records name; delegates = has_delegation records name }
 
--- each name at or below which a record stands is there, with what stands at it, and no other
+-- each owner is there, with what stands at it, and no other name
 pub record IsIndex (records : List Record) (nodes : List (List (List ℕ) × Node)) : Type 0 where
   pub at : (name : List (List ℕ)) → lookup (same_name name) nodes ≡
-      (if has_record records name then Some (summary records name) else None)
+      (if has_owner records name then Some (summary records name) else None)
 
 -- a name with no record
 abbrev pub empty_node : Node
@@ -42,12 +51,21 @@ abbrev pub filled : Bool → Option Node → Option Node
 filled true node = Some (unwrap_or node empty_node)
 filled false node = node
 
--- a lent zone: what its records are, and their names
-pub record IsLentZone (zone : Zone) (nodes : List (List (List ℕ) × Node)) : Type 0 where
+-- a lent zone: what its records are, their owners by name and by key, and whether some record delegates
+pub record IsLentZone (zone : Zone) (nodes : List (List (List ℕ) × Node)) (order : List Entry) (parted : Bool)
+    : Type 0 where
   pub lendable : AreLendable zone.origin zone.records
   pub distinct : distinct_records zone.records ≡ zone.records
   pub few : length zone.records ≤ 65536
   pub index : IsIndex zone.records nodes
+  pub sorted : AreSorted order
+  pub placed : ArePlaced zone.records order
+  pub delegates : parted ≡ list_any (λ r. is_delegation r.body) zone.records
+
+-- the origin of the zone is at or above the name, and has more labels than that of the zone found before
+abbrev pub is_deeper : Zone → Option Zone → List (List ℕ) → Bool
+is_deeper zone None name = is_under name zone.origin
+is_deeper zone (Some other) name = is_under name zone.origin && nat_lt (length other.origin) (length zone.origin)
 
 -- the first item, if there is one
 abbrev pub first_of : {X : Type 0} → List X → Option X
@@ -71,3 +89,13 @@ bodies_at_places records places = filter_map (body_at records) places
 abbrev pub outcome_of : (List (List ℕ) → Answer) → Step → Answer
 outcome_of follow (Known answer) = answer
 outcome_of follow (Alias target) = follow target
+
+-- whether the owner of a record is listed
+abbrev pub counts : Lent → Record → Bool
+counts All r = true
+counts Parts r = is_delegation r.body
+
+-- whether the zone's origin is at the name, or an owner that is listed
+abbrev pub stands_at : Lent → Zone → List (List ℕ) → Bool
+stands_at lent zone name =
+    same_name zone.origin name || list_any (λ r. same_name r.owner name && counts lent r) zone.records

@@ -2,12 +2,13 @@
 ghost use Rattle.std.specs.Prelude.{◌≡◌, ◌≤◌, length};
 ghost use Rattle.zone_answers.specs.Answers.{answer_bodies};
 
+use crate::AskKind;
 use addr_bits::{Family, Items};
 use arrayvec::ArrayVec;
 use dns_name::Name;
 use master_reader::Body;
 
-/// What is asked of a name.
+/// The kinds of records that are asked for at a name.
 #[derive(Clone, Copy, Debug, PartialEq, Eq)]
 pub enum QKind {
     A,
@@ -18,7 +19,6 @@ pub enum QKind {
 
 impl QKind {
     ghost use Rattle.zone_answers.specs.Answers.{kind_in};
-    ghost use Rattle.zone_answers.specs.Questions.{kind_word};
 
     /// The kind of record that has the addresses of a family (RFC 1035, section 3.4.1, and RFC 3596, section 2.1).
     pub fn of_addresses(family: Family) -> QKind
@@ -29,33 +29,20 @@ impl QKind {
             Family::V6 => QKind::Aaaa,
         }
     }
-
-    /// The word of a kind of record (RFC 1035, section 3.2.2, and RFC 3596, section 2.1).
-    pub fn word(self) -> &'static str
-        ensures word { result.now ≡ kind_word self }
-        ensures short { length result.now ≤ 4 }
-    {
-        match self {
-            QKind::A => "A",
-            QKind::Aaaa => "AAAA",
-            QKind::Mx => "MX",
-            QKind::Txt => "TXT",
-        }
-    }
 }
 
 /// A name and what is asked of it.
 #[derive(Drop, Debug)]
 pub struct Question {
     pub name: Name,
-    pub kind: QKind,
+    pub kind: AskKind,
 }
 
 impl Question {
     ghost use Rattle.zone_answers.specs.Questions.{question_text};
 
     /// The text of the question: the printed name, a space and the word of the kind. It takes no memory.
-    pub fn text(&self) -> ArrayVec<u8, 1025>
+    pub fn text(&self) -> ArrayVec<u8, 1029>
         ensures { result.items ≡ question_text self.now }
     {
         let mut text = ArrayVec::new();

@@ -1,7 +1,6 @@
-//! The names of a zone: each one at or below which a record stands.
+//! The owners of a zone's records.
 ghost use Rattle.std.specs.Prelude.{◌≡◌, ℕ, List, [], ◌∷◌, ◌++◌, length, OnOk, IfOk};
 ghost use Rattle.std.specs.Map.{lookup};
-ghost use Rattle.dns_name.specs.Name.{is_under};
 ghost use Rattle.master_reader.specs.declared.record.Record.{Record};
 ghost use Rattle.zone_answers.specs.Same.{same_name};
 ghost use Rattle.zone_answers.specs.Answers.{is_delegation};
@@ -23,10 +22,10 @@ pub(crate) struct Node {
     pub(crate) delegates: bool,
 }
 
-/// The names of a zone, in the order of their first record.
+/// The owners, in the order of their first record.
 pub(crate) type Nodes = IndexMap<Name, Node>;
 
-/// The names of the records.
+/// The owners of the records.
 pub(crate) fn index_records(alloc: Global, records: &[Record]) -> Result<Nodes, AllocError>
     ensures { IfOk result (λ nodes. IsIndex records.now nodes.entries) }
 {
@@ -47,7 +46,7 @@ fn add_record(
     ensures { (records : List Record) → IsIndex records nodes.old.entries → place ≡ length records
         → OnOk result (IsIndex (records ++ added.now ∷ []) nodes.new.entries) }
 {
-    add_names(alloc, nodes, added.owner.clone()?)?;
+    add_name(alloc, nodes, added.owner.clone()?)?;
     let delegates = is_delegation(&added.body);
     if let Some(node) = nodes.get_mut(&added.owner) {
         node.places.push(place)?;
@@ -59,24 +58,10 @@ fn add_record(
 }
 
 /// Whether the body is that of an NS record.
-fn is_delegation(body: &Body) -> bool
+pub(crate) fn is_delegation(body: &Body) -> bool
     ensures { result ≡ is_delegation body.now }
 {
     matches!(body, Body::Ns(_))
-}
-
-/// Adds the name and those above it that are not there yet.
-fn add_names(alloc: Global, nodes: &mut Nodes, added: Name) -> Result<(), AllocError>
-    ensures { OnOk result ((name : List (List ℕ))
-        → lookup (same_name name) nodes.new.entries ≡ filled (is_under added name)
-        (lookup (same_name name) nodes.old.entries)) }
-{
-    let parent = added.parent();
-    add_name(alloc, nodes, added)?;
-    match parent {
-        Some(above) => add_names(alloc, nodes, above),
-        None => Ok(()),
-    }
 }
 
 /// Adds the name with no record, if it is not there yet.

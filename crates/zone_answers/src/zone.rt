@@ -1,22 +1,49 @@
 //! One lent zone.
-ghost use Rattle.std.specs.Prelude.{◌≡◌, ℕ, ◌≤◌, List, length, filter, filter_map, sum_by, IfOk, IfSome, IsFalse, MatchOption};
+ghost use Rattle.std.specs.Prelude.{◌≡◌, ℕ, ◌≤◌, ◌&&◌, ◌||◌, List, OnOk, length, filter, filter_map, sum_by, IfOk, IfSome, IsFalse, MatchOption};
+ghost use Rattle.std.specs.List.{list_any};
 ghost use Rattle.std.specs.Option.{option_copied};
-ghost use Rattle.dns_name.specs.Name.{IsUnder};
-ghost use Rattle.zone_answers.specs.Same.{distinct_records};
-ghost use Rattle.zone_answers.specs.Answers.{bodies_at, closest_above, is_cut_off, is_of, name_exists, node_of, target_of, has_record};
+ghost use Rattle.dns_name.specs.Name.{IsUnder, is_under};
+ghost use Rattle.dns_name.specs.Wire.{wire_form};
+ghost use Rattle.zone_answers.specs.Same.{distinct_records, same_name};
+ghost use Rattle.zone_answers.specs.Answers.{bodies_at, closest_above, is_cut_off, is_delegation, is_of, name_exists, node_of, target_of, has_record};
 ghost use Rattle.zone_answers.specs.Names.{other_len};
-ghost use Rattle.zone_answers.specs.Index.{body_at, first_of, has_delegation, places_from, target_in};
+ghost use Rattle.zone_answers.specs.Reversed.{closest_at, node_below};
+ghost use Rattle.zone_answers.specs.Index.{body_at, counts, stands_at, first_of, has_delegation, places_from, target_in};
 ghost use Rattle.zone_answers.specs.Lend.{AreLendable, IsBodyFit, IsLeastClash, has_clash};
 
 use crate::answer::{Bodies, QKind};
 use crate::clash::{clashes, lesser};
-use crate::node::{Nodes, index_records};
+use crate::node::{Nodes, index_records, is_delegation};
+use crate::order::{Entry, any_begins, begin_with, key_of, sort_owners};
 use crate::text::other_len;
+use addr_bits::Items;
 use dns_name::Name;
 use indexmap::IndexSet;
 use master_reader::{Body, Record};
 use std::alloc::{AllocError, Global};
 use std::marker::Model;
+
+/// Which owners are listed.
+#[derive(Clone, Copy, PartialEq, Eq)]
+pub(crate) enum Lent {
+    /// Those of all records.
+    All,
+
+    /// Those of NS records.
+    Parts,
+}
+
+impl Lent {
+    /// Whether the owner of the record is listed.
+    fn counts(self, listed: &Record) -> bool
+        ensures { result ≡ counts self listed.now }
+    {
+        match self {
+            Lent::All => true,
+            Lent::Parts => is_delegation(&listed.body),
+        }
+    }
+}
 
 /// A lent zone, which contracts see as its origin and its records, equal ones once, in order.
 #[derive(Drop, Debug)]
@@ -24,6 +51,12 @@ pub(crate) struct LentZone {
     origin: Name,
     records: IndexSet<Record>,
     nodes: Nodes,
+
+    /// The records, in the order of the keys of their owners.
+    order: Vec<Entry>,
+
+    /// Whether an NS record is among the records.
+    parted: bool,
 }
 
 impl Model for LentZone {
@@ -34,7 +67,8 @@ impl Model for LentZone {
 
     ghost view = { λ z. record { origin = z.origin; records = z.records.keys } };
 
-    ghost invariant = { λ z. IsLentZone (record { origin = z.origin; records = z.records.keys }) z.nodes.entries };
+    ghost invariant = { λ z. IsLentZone (record { origin = z.origin; records = z.records.keys }) z.nodes.entries
+        z.order.items z.parted };
 }
 
 impl LentZone {
@@ -50,10 +84,14 @@ impl LentZone {
         ensures { IfOk result (λ zone. zone ≡ record { origin = origin; records = records.keys }) }
     {
         let nodes = index_records(alloc, records.as_slice())?;
+        let order = sort_owners(alloc, records.as_slice())?;
+        let parted = have_delegation(records.as_slice());
         Ok(LentZone {
             origin,
             records,
             nodes,
+            order,
+            parted,
         })
     }
 
@@ -75,7 +113,7 @@ impl LentZone {
     pub(crate) fn has_record(&self, name: &Name) -> bool
         ensures { result ≡ has_record self.now.records name.now }
     {
-        self.nodes.contains_key(name)
+        any_begins(self.order.as_slice(), &key_of(name))
     }
 
     /// Whether the name is the origin, or a record stands at or below it (RFC 4592, section 2.2.2).
@@ -101,6 +139,17 @@ impl LentZone {
         requires { IsUnder name.now self.now.origin }
         ensures { result ≡ is_cut_off self.now name.now }
     {
+        if !self.parted {
+            return false;
+        }
+        self.is_below_cut(name)
+    }
+
+    /// The same by a look at each name from this one up to the origin.
+    fn is_below_cut(&self, name: &Name) -> bool
+        requires { IsUnder name.now self.now.origin }
+        ensures { result ≡ is_cut_off self.now name.now }
+    {
         if *name == self.origin {
             return false;
         }
@@ -108,7 +157,7 @@ impl LentZone {
             return true;
         }
         match name.parent() {
-            Some(above) => self.is_cut_off(&above),
+            Some(above) => self.is_below_cut(&above),
             None => false,
         }
     }
@@ -144,6 +193,54 @@ impl LentZone {
         } else {
             None
         })
+    }
+
+    /// The deepest name at or above this one that exists (RFC 4592, section 3.3.1).
+    fn closest_at(&self, name: &Name) -> Name
+        ensures { result ≡ closest_at self.now name.now }
+    {
+        if self.exists(name) {
+            name.clone().unwrap()
+        } else {
+            self.closest_above(name)
+        }
+    }
+
+    /// The wildcard that stands for the names below this one that do not exist (RFC 4592, section 3.3.1).
+    pub(crate) fn node_below(&self, name: &Name) -> Result<Option<Name>, AllocError>
+        requires { length (wire_form name.now) ≤ 253 }
+        ensures { IfOk result (λ node. node ≡ node_below self.now name.now) }
+    {
+        // `label_count` tells the checker that the name is legal.
+        let _labels = name.label_count();
+        let Ok(wildcard) = self.closest_at(name).child(b"*") else {
+            return Ok(None);
+        };
+        Ok(if self.exists(&wildcard) {
+            Some(wildcard)
+        } else {
+            None
+        })
+    }
+
+    /// Adds the origin and the owners that count, of those at or below the top.
+    pub(crate) fn push_names(
+        &self,
+        lent: Lent,
+        top: &Name,
+        names: &mut Items<Name>,
+    ) -> Result<(), AllocError>
+        ensures { OnOk result ((name : List (List ℕ)) → list_any (same_name name) names.new
+            ≡ (list_any (same_name name) names.old || (stands_at lent self.now name && is_under name top.now))) }
+    {
+        push_under(&self.origin, top, names)?;
+        let entries = begin_with(self.order.as_slice(), &key_of(top));
+        for entry in entries {
+            if let Some(listed) = self.records.get_index(entry.place) {
+                push_owner(lent, listed, names)?;
+            }
+        }
+        Ok(())
     }
 
     /// The places of the records at the name.
@@ -259,6 +356,35 @@ impl LentZone {
         }
         Ok(bodies)
     }
+}
+
+/// Adds the owner of the record, if it counts.
+fn push_owner(lent: Lent, listed: &Record, names: &mut Items<Name>) -> Result<(), AllocError>
+    ensures { OnOk result ((name : List (List ℕ)) → list_any (same_name name) names.new
+        ≡ (list_any (same_name name) names.old || (same_name listed.now.owner name && counts lent listed.now))) }
+{
+    if lent.counts(listed) {
+        names.push(listed.owner.clone()?)?;
+    }
+    Ok(())
+}
+
+/// Whether an NS record is among the records.
+fn have_delegation(records: &[Record]) -> bool
+    ensures { result ≡ list_any (λ r. is_delegation r.body) records.now }
+{
+    records.iter().any(|record| is_delegation(&record.body))
+}
+
+/// Adds the name, if it is at or below the top.
+fn push_under(added: &Name, top: &Name, names: &mut Items<Name>) -> Result<(), AllocError>
+    ensures { OnOk result ((name : List (List ℕ)) → list_any (same_name name) names.new
+        ≡ (list_any (same_name name) names.old || (same_name added.now name && is_under name top.now))) }
+{
+    if added.under(top) {
+        names.push(added.clone()?)?;
+    }
+    Ok(())
 }
 
 /// Whether the body is of the kind.

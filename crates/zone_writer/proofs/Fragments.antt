@@ -20,7 +20,7 @@ use Rattle.master_reader.specs.declared.record.Body.TheVariants.{Txt}
 use Rattle.master_reader.specs.declared.record.Record.{Record}
 use Rattle.master_reader.specs.Tokens.{are_digits, bytes_of, name_in}
 use Rattle.master_reader.specs.Ttl.{are_groups, is_ttl}
-use Rattle.master_reader.specs.Entry.{◌>>=◌, Context, a_record, an_origin, is_dollar_word, no_record, says_ttl}
+use Rattle.master_reader.specs.Entry.{◌>>=◌, Context, a_record, an_origin, is_dollar_word, no_record, record_ask, says_ttl}
 use Rattle.master_reader.specs.Data.{is_long_text, txt_body}
 use Rattle.master_reader.proofs.Asked.{stated_asks}
 use Rattle.zone_writer.specs.Fragment.{owner_text, quoted, record_line, record_lines, strings_of}
@@ -32,19 +32,19 @@ use Rattle.zone_writer.proofs.Tables.{table_on}
 use Rattle.zone_writer.proofs.Texts.{prefixes_piece, some_string, strings_bytes, strings_fit, text_bytes}
 
 -- the context of a fragment: the domain's name is the origin
-abbrev context_at : (name : List (List ℕ)) → Option (List (List ℕ)) → Context
+abbrev pub context_at : (name : List (List ℕ)) → Option (List (List ℕ)) → Context
 context_at name owner = record { origin = name; owner = owner }
 
 -- ---- owners
 
 -- what a reader takes the first word of a record for
-record IsOwner (name : List (List ℕ)) (first : List ℕ) (owner : List (List ℕ)) : Type 0 where
-  word : IsWord first
-  no_dollar : is_dollar_word (plain_token first) ≡ false
-  named : name_in name (plain_token first) ≡ Ok owner
-  under : is_under owner name ≡ true
+pub record IsOwner (name : List (List ℕ)) (first : List ℕ) (owner : List (List ℕ)) : Type 0 where
+  pub word : IsWord first
+  pub no_dollar : is_dollar_word (plain_token first) ≡ false
+  pub named : name_in name (plain_token first) ≡ Ok owner
+  pub under : is_under owner name ≡ true
 
-at_is_owner : (name : List (List ℕ)) → IsOwner name (codes "@") name
+pub at_is_owner : (name : List (List ℕ)) → IsOwner name (codes "@") name
 at_is_owner name = record {
   word = record { some = omega arith; each = refl };
   no_dollar = refl;
@@ -75,17 +75,19 @@ is_owner domain label name k words e few = by (k == 0)
 
 -- ---- the strings of a record
 
-abbrev strings_parts : List (List ℕ) → List Part
+abbrev pub strings_parts : List (List ℕ) → List Part
 strings_parts strings = map a_string strings
 
-abbrev record_parts : List (List ℕ) → List Part
-record_parts strings = a_word (codes "IN") ∷ a_word (codes "TXT") ∷ strings_parts strings
+-- the class may be written or left out
+abbrev pub record_parts : (class : Bool) → List (List ℕ) → List Part
+record_parts true strings = a_word (codes "IN") ∷ a_word (codes "TXT") ∷ strings_parts strings
+record_parts false strings = a_word (codes "TXT") ∷ strings_parts strings
 
 are_strings : (strings : List (List ℕ)) → list_all (list_all is_string_byte) strings ≡ true → AreParts (strings_parts strings)
 are_strings [] h = tt
 are_strings (string ∷ strings) h = let parts = and_parts (list_all is_string_byte string) (list_all (list_all is_string_byte) strings) h in (parts.0, are_strings strings parts.1)
 
-strings_text : (strings : List (List ℕ)) → parts_text (strings_parts strings) ≡ flat_map quoted strings
+pub strings_text : (strings : List (List ℕ)) → parts_text (strings_parts strings) ≡ flat_map quoted strings
 strings_text [] = refl
 strings_text (string ∷ strings) = ap (λ (t : List ℕ). quoted string ++ t) (strings_text strings)
 
@@ -100,20 +102,44 @@ text_is_body string strings h =
 
 -- ---- a record
 
+are_record_parts : (class : Bool) (strings : List (List ℕ)) → list_all (list_all is_string_byte) strings ≡ true → AreParts (record_parts class strings)
+are_record_parts true strings bytes = (record { some = omega arith; each = refl }, (record { some = omega arith; each = refl }, are_strings strings bytes))
+are_record_parts false strings bytes = (record { some = omega arith; each = refl }, are_strings strings bytes)
+
+-- the tokens behind the owner ask for a TXT record
+parts_ask : (class : Bool) (owner : List (List ℕ)) (string : List ℕ) (strings : List (List ℕ))
+    → record_ask owner (parts_tokens (record_parts class (string ∷ strings))) ≡ Ok (a_record owner (plain_token (codes "TXT")) (parts_tokens (strings_parts (string ∷ strings))))
+parts_ask true owner string strings = refl
+parts_ask false owner string strings = refl
+
 -- the record of a line stands at or below the domain
-strings_on : (name : List (List ℕ)) (last : Option (List (List ℕ))) (line : ℕ) (first : List ℕ) (owner : List (List ℕ)) (string : List ℕ) (strings : List (List ℕ)) (rest : List ℕ) (others : List Record)
+strings_on : (name : List (List ℕ)) (last : Option (List (List ℕ))) (line : ℕ) (first : List ℕ) (owner : List (List ℕ)) (class : Bool) (string : List ℕ) (strings : List (List ℕ)) (rest : List ℕ)
+    (others : List Record)
     → IsOwner name first owner → list_all (list_all is_string_byte) (string ∷ strings) ≡ true → is_long_text (string ∷ strings) ≡ false
     → ((n : ℕ) → ReadsOn name (context_at name (Some owner)) n rest others)
-    → ReadsOn name (context_at name last) line (line_text first (record_parts (string ∷ strings)) ++ rest) (record { owner = owner; body = Txt (string ∷ strings) } ∷ others)
-strings_on name last line first owner string strings rest others is bytes fits on =
-    line_on name (context_at name last) line first (record_parts (string ∷ strings)) (a_record owner (plain_token (codes "TXT")) (parts_tokens (strings_parts (string ∷ strings)))) rest
-    (record { owner = owner; body = Txt (string ∷ strings) } ∷ []) others is.word
-    (record { some = omega arith; each = refl }, (record { some = omega arith; each = refl }, are_strings (string ∷ strings) bytes))
-    (λ n. sym (stated_asks (context_at name last) (line_entry n first (record_parts (string ∷ strings))) (plain_token first) (parts_tokens (record_parts (string ∷ strings))) owner refl refl is.no_dollar is.named))
+    → ReadsOn name (context_at name last) line (line_text first (record_parts class (string ∷ strings)) ++ rest) (record { owner = owner; body = Txt (string ∷ strings) } ∷ others)
+strings_on name last line first owner class string strings rest others is bytes fits on =
+    line_on name (context_at name last) line first (record_parts class (string ∷ strings)) (a_record owner (plain_token (codes "TXT")) (parts_tokens (strings_parts (string ∷ strings)))) rest
+    (record { owner = owner; body = Txt (string ∷ strings) } ∷ []) others is.word (are_record_parts class (string ∷ strings) bytes)
+    (λ n. sym (stated_asks (context_at name last) (line_entry n first (record_parts class (string ∷ strings))) (plain_token first) (parts_tokens (record_parts class (string ∷ strings))) owner refl refl is.no_dollar is.named)
+    ∙ parts_ask class owner string strings)
     (Txt (string ∷ strings), sym (text_is_body string strings fits), sym (ap (λ (t : Bool). cond t (record { owner = owner; body = Txt (string ∷ strings) } ∷ []) []) is.under))
     on
 
-line_same : (first : List ℕ) (strings : List (List ℕ)) → ((first ++ codes " IN TXT") ++ flat_map quoted strings) ++ 10 ∷ [] ≡ line_text first (record_parts strings)
+-- the same for a text in its own strings
+pub text_on : (name : List (List ℕ)) (last : Option (List (List ℕ))) (line : ℕ) (first : List ℕ) (owner : List (List ℕ)) (class : Bool) (text rest : List ℕ) (others : List Record)
+    → IsOwner name first owner → list_all is_string_byte text ≡ true → length text ≤ 65278
+    → ((n : ℕ) → ReadsOn name (context_at name (Some owner)) n rest others)
+    → ReadsOn name (context_at name last) line (line_text first (record_parts class (strings_of text)) ++ rest) (record { owner = owner; body = Txt (strings_of text) } ∷ others)
+text_on name last line first owner class text rest others is bytes short on =
+    let cut = some_string (length text) text in
+    let same : strings_of text ≡ cut.0 ∷ cut.1 = cut.2 in
+    subst (λ (ss : List (List ℕ)). ReadsOn name (context_at name last) line (line_text first (record_parts class ss) ++ rest) (record { owner = owner; body = Txt ss } ∷ others)) (sym same)
+    (strings_on name last line first owner class cut.0 cut.1 rest others is
+    (subst (λ (ss : List (List ℕ)). list_all (list_all is_string_byte) ss ≡ true) same (strings_bytes (length text) text bytes))
+    (subst (λ (ss : List (List ℕ)). is_long_text ss ≡ false) same (strings_fit text short)) on)
+
+line_same : (first : List ℕ) (strings : List (List ℕ)) → ((first ++ codes " IN TXT") ++ flat_map quoted strings) ++ 10 ∷ [] ≡ line_text first (record_parts true strings)
 line_same first strings =
     ap (λ (t : List ℕ). t ++ 10 ∷ []) (append_assoc first (codes " IN TXT") (flat_map quoted strings) ∙ ap (λ (t : List ℕ). first ++ (codes " IN TXT" ++ t)) (sym (strings_text strings)))
 
@@ -122,13 +148,8 @@ record_on : (name : List (List ℕ)) (last : Option (List (List ℕ))) (line : �
     → ((n : ℕ) → ReadsOn name (context_at name (Some owner)) n rest others)
     → ReadsOn name (context_at name last) line (record_line first text ++ rest) (record { owner = owner; body = Txt (strings_of text) } ∷ others)
 record_on name last line first owner text rest others is bytes short on =
-    let cut = some_string (length text) text in
-    let same : strings_of text ≡ cut.0 ∷ cut.1 = cut.2 in
-    subst (λ (ss : List (List ℕ)). ReadsOn name (context_at name last) line ((((first ++ codes " IN TXT") ++ flat_map quoted ss) ++ 10 ∷ []) ++ rest) (record { owner = owner; body = Txt ss } ∷ others)) (sym same)
-    (subst (λ (t : List ℕ). ReadsOn name (context_at name last) line (t ++ rest) (record { owner = owner; body = Txt (cut.0 ∷ cut.1) } ∷ others)) (sym (line_same first (cut.0 ∷ cut.1)))
-    (strings_on name last line first owner cut.0 cut.1 rest others is
-    (subst (λ (ss : List (List ℕ)). list_all (list_all is_string_byte) ss ≡ true) same (strings_bytes (length text) text bytes))
-    (subst (λ (ss : List (List ℕ)). is_long_text ss ≡ false) same (strings_fit text short)) on))
+    subst (λ (t : List ℕ). ReadsOn name (context_at name last) line (t ++ rest) (record { owner = owner; body = Txt (strings_of text) } ∷ others)) (sym (line_same first (strings_of text)))
+    (text_on name last line first owner true text rest others is bytes (omega (arith, short)) on)
 
 -- ---- all records
 

@@ -36,7 +36,7 @@ HasStringBytes bytes = list_all is_string_byte bytes ≡ true
 strings_of_test : (p : ℕ → Bool) → p 34 ≡ false → p 92 ≡ false → p 10 ≡ false → (bytes : List ℕ) → list_all p bytes ≡ true → HasStringBytes bytes
 strings_of_test p quote slash feed = weaker p is_string_byte (λ b h. and_from _ _ (and_from _ _ (keeps_out p 34 quote b h) (keeps_out p 92 slash b h)) (keeps_out p 10 feed b h))
 
-both : (xs ys : List ℕ) → HasStringBytes xs → HasStringBytes ys → HasStringBytes (xs ++ ys)
+pub both : (xs ys : List ℕ) → HasStringBytes xs → HasStringBytes ys → HasStringBytes (xs ++ ys)
 both = all_both is_string_byte
 
 decimal_bytes : (n : ℕ) → n < 2 ^ 64 → HasStringBytes (decimal n)
@@ -78,7 +78,7 @@ flat_bytes : (term : FlatTerm) → HasPrefix term.net → HasStringBytes (writte
 unfolding written_flat
 flat_bytes term h = both (written_qualifier term.verdict) (written_net term.net) (qualifier_bytes term.verdict) (net_bytes term.net h)
 
-spaced_bytes : (terms : List FlatTerm) → HavePrefixes terms → HasStringBytes (spaced terms)
+pub spaced_bytes : (terms : List FlatTerm) → HavePrefixes terms → HasStringBytes (spaced terms)
 spaced_bytes [] h = refl
 spaced_bytes (term ∷ terms) h = both (32 ∷ written_flat term) (spaced terms) (flat_bytes term h.0) (spaced_bytes terms h.1)
 
@@ -142,19 +142,19 @@ strings_short (suc n) text h = by (nat_lt 255 (length text)) refl (strings_short
     by true e rest = or_from (is_long (take 255 text)) (list_any is_long (strings_within n (drop 255 text))) (le-ltb 255 (length (take 255 text)) (omega (arith, length-take 255 text))) rest
     by false e rest = or_from (is_long text) false e refl
 
--- the octets of the strings, with a length octet each
-octets_below : (n : ℕ) (text : List ℕ) (start : ℕ) → fold (λ (a : ℕ) (s : List ℕ). a + (length s + 1)) start (strings_within n text) ≤ start + length text + n + 1
+-- the octets of the strings, with a length octet each: one for each 255 octets of the text, and one more
+octets_below : (n : ℕ) (text : List ℕ) (start : ℕ) → 255 * fold (λ (a : ℕ) (s : List ℕ). a + (length s + 1)) start (strings_within n text) ≤ 255 * start + 256 * length text + 255
 octets_below zero text start = omega arith
 octets_below (suc n) text start = by (nat_lt 255 (length text)) refl (octets_below n (drop 255 text) (start + (length (take 255 text) + 1)))
   where
     by : (t : Bool) → nat_lt 255 (length text) ≡ t
-        → fold (λ (a : ℕ) (s : List ℕ). a + (length s + 1)) (start + (length (take 255 text) + 1)) (strings_within n (drop 255 text)) ≤ start + (length (take 255 text) + 1) + length (drop 255 text) + n + 1
-        → fold (λ (a : ℕ) (s : List ℕ). a + (length s + 1)) start (cond t (take 255 text ∷ strings_within n (drop 255 text)) (text ∷ [])) ≤ start + length text + suc n + 1
+        → 255 * fold (λ (a : ℕ) (s : List ℕ). a + (length s + 1)) (start + (length (take 255 text) + 1)) (strings_within n (drop 255 text)) ≤ 255 * (start + (length (take 255 text) + 1)) + 256 * length (drop 255 text) + 255
+        → 255 * fold (λ (a : ℕ) (s : List ℕ). a + (length s + 1)) start (cond t (take 255 text ∷ strings_within n (drop 255 text)) (text ∷ [])) ≤ 255 * start + 256 * length text + 255
     by true e rest = omega (arith, rest, length-take 255 text, length-drop 255 text, ltb-true 255 (length text) e)
     by false e rest = omega arith
 
--- the strings of a text below the size are not too long
-pub strings_fit : (text : List ℕ) → length text ≤ 4096 → is_long_text (strings_of text) ≡ false
+-- the strings of a text of so many octets are not too long
+pub strings_fit : (text : List ℕ) → length text ≤ 65278 → is_long_text (strings_of text) ≡ false
 strings_fit text short =
     let octets = octets_below (length text) text 0 in
     or_from (list_any is_long (strings_of text)) _ (strings_short (length text) text (omega arith)) (le-ltb 65535 _ (omega (arith, octets, short)))

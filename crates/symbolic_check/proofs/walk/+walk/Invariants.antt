@@ -1,6 +1,6 @@
 use Rattle.std.proofs.Common.{◌+◌, ◌*◌, ◌≤◌, length}
 use Rattle.addr_bits.specs.Address.{address_of}
-use Rattle.spf_model.specs.Run.{says}
+use Rattle.symbolic_check.specs.Walk.{says_at}
 use Rattle.symbolic_check.proofs.Rows.{WalkedSoFar}
 use Rattle.symbolic_check.proofs.walk.+walk.Given as goal
 
@@ -24,4 +24,4 @@ decreases-walk_default g l = 6 * l.depth + 4
 
 abbrev pub invariant-walk_terms-loop-index : goal.invariant-walk_terms-loop-index
 invariant-walk_terms-loop-index g l = (l.index ≤ length l.terms)
-    × WalkedSoFar g.W.Width.BITS (says l.context.zones.now) (address_of g.W.AddressFamily.family) l.context l.depth l.terms l.initial.walked l.initial.asked l.start l.index l.number l.walked l.asked
+    × WalkedSoFar g.W.Width.BITS (says_at (address_of g.W.AddressFamily.family) l.context.zones.now) (address_of g.W.AddressFamily.family) l.context l.depth l.terms l.initial.walked l.initial.asked l.start l.index l.number l.walked l.asked

@@ -1,5 +1,5 @@
 use Rattle.std.proofs.Common.{◌≡◌, ℕ, List, sym, ap, ap₂, ◌∙◌, ◌++◌, ◌∷◌, [], Bool, true, ◌||◌, Some}
-use Rattle.dns_name.specs.Name.{is_under}
+use Rattle.zone_answers.specs.Same.{same_name}
 use Rattle.zone_answers.specs.declared.node.Node.{Node}
 use Rattle.zone_answers.specs.Index.{filled}
 use Rattle.zone_answers.proofs.Nodes.{at}
@@ -9,9 +9,9 @@ use Rattle.zone_answers.proofs.node.add_record.Goals as goal
 
 pub returns-then-delegates : goal.returns-then-delegates
 returns-then-delegates c = λ records index place.
-    let here : at c.add_names.new.nodes.entries c.args.added.now.owner ≡ Some c.in-Some.node.now = sym c.in-Some.ensures.value in
-    index_more records c.args.added.now c.args.nodes.now.entries c.add_names.new.nodes.entries _ c.in-Some.node.now (record { places = c.push.new.self; delegates = true }) index
-    (λ name. c.in_ok-add_names.ensures name ∙ ap (λ owner. filled (is_under owner name) (at c.args.nodes.now.entries name)) c.in_ok-clone.ensures.cases)
+    let here : at c.add_name.new.nodes.entries c.args.added.now.owner ≡ Some c.in-Some.node.now = sym c.in-Some.ensures.value in
+    index_more records c.args.added.now c.args.nodes.now.entries c.add_name.new.nodes.entries _ c.in-Some.node.now (record { places = c.push.new.self; delegates = true }) index
+    (λ name. c.in_ok-add_name.ensures name ∙ ap (λ owner. filled (same_name owner name) (at c.args.nodes.now.entries name)) c.in_ok-clone.ensures.cases)
     here
     (ap₂ (λ (l : List ℕ) (b : Bool). let n : Node = record { places = l; delegates = b } in n)
     (c.in_ok-push.ensures.ok ∙ ap (λ n. c.in-Some.node.now.places ++ n ∷ []) place)
@@ -20,9 +20,9 @@ returns-then-delegates c = λ records index place.
 
 pub returns-else-delegates : goal.returns-else-delegates
 returns-else-delegates c = λ records index place.
-    let here : at c.add_names.new.nodes.entries c.args.added.now.owner ≡ Some c.in-Some.node.now = sym c.in-Some.ensures.value in
-    index_more records c.args.added.now c.args.nodes.now.entries c.add_names.new.nodes.entries _ c.in-Some.node.now (record { places = c.push.new.self; delegates = c.in-Some.node.now.delegates }) index
-    (λ name. c.in_ok-add_names.ensures name ∙ ap (λ owner. filled (is_under owner name) (at c.args.nodes.now.entries name)) c.in_ok-clone.ensures.cases)
+    let here : at c.add_name.new.nodes.entries c.args.added.now.owner ≡ Some c.in-Some.node.now = sym c.in-Some.ensures.value in
+    index_more records c.args.added.now c.args.nodes.now.entries c.add_name.new.nodes.entries _ c.in-Some.node.now (record { places = c.push.new.self; delegates = c.in-Some.node.now.delegates }) index
+    (λ name. c.in_ok-add_name.ensures name ∙ ap (λ owner. filled (same_name owner name) (at c.args.nodes.now.entries name)) c.in_ok-clone.ensures.cases)
     here
     (ap₂ (λ (l : List ℕ) (b : Bool). let n : Node = record { places = l; delegates = b } in n)
     (c.in_ok-push.ensures.ok ∙ ap (λ n. c.in-Some.node.now.places ++ n ∷ []) place)
@@ -30,6 +30,6 @@ returns-else-delegates c = λ records index place.
     ((c.get_mut.follows.holds _).3 (some_there _ _ here)).0
 
 pub returns-in_default : goal.returns-in_default
-returns-in_default c = λ records index place. absurd (owner_there c.args.added.now.owner (at c.args.nodes.now.entries c.args.added.now.owner) (at c.add_names.new.nodes.entries c.args.added.now.owner)
-    (c.in_ok-add_names.ensures c.args.added.now.owner ∙ ap (λ owner. filled (is_under owner c.args.added.now.owner) (at c.args.nodes.now.entries c.args.added.now.owner)) c.in_ok-clone.ensures.cases)
+returns-in_default c = λ records index place. absurd (owner_there c.args.added.now.owner (at c.args.nodes.now.entries c.args.added.now.owner) (at c.add_name.new.nodes.entries c.args.added.now.owner)
+    (c.in_ok-add_name.ensures c.args.added.now.owner ∙ ap (λ owner. filled (same_name owner c.args.added.now.owner) (at c.args.nodes.now.entries c.args.added.now.owner)) c.in_ok-clone.ensures.cases)
     (sym c.in_default.ensures.value))

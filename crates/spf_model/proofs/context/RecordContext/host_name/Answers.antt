@@ -9,20 +9,20 @@ use Rattle.spf_model.proofs.Asking.{untold, named, unnamed}
 use Rattle.spf_model.proofs.context.RecordContext.host_name.Goals as goal
 
 pub returns-in_err-text : goal.returns-in_err-text
-returns-in_err-text c = λ asked.
+returns-in_err-text c = λ asked a.
     let p = err_from_is_err_and c.from_residual.result c.from_residual.ensures.1 in
     rw (p.1, p.2)
-    (untold (says c.args.self.now.zones.now) (site_of c.args.self.now) c.args.term (option_map (λ s. s.now) c.args.spec)
-    (Unsettled cause.Target (at (site_of c.args.self.now) c.args.term)) (λ text name. name) c.in_err-text.field-0.0 asked (c.in_err-text.ensures asked))
+    (untold (says c.args.self.now.zones.now a) (site_of c.args.self.now) c.args.term (option_map (λ s. s.now) c.args.spec)
+    (Unsettled cause.Target (at (site_of c.args.self.now) c.args.term)) (λ text name. name) c.in_err-text.field-0.0 asked (c.in_err-text.ensures asked a))
 
 pub returns-in-Some : goal.returns-in-Some
-returns-in-Some c = λ asked.
-    named (says c.args.self.now.zones.now) (site_of c.args.self.now) c.args.term (option_map (λ s. s.now) c.args.spec)
+returns-in-Some c = λ asked a.
+    named (says c.args.self.now.zones.now a) (site_of c.args.self.now) c.args.term (option_map (λ s. s.now) c.args.spec)
     (Unsettled cause.Target (at (site_of c.args.self.now) c.args.term)) (λ text name. name) c.in_ok-text.text c.in-Some.name asked
-    (c.in_ok-text.ensures asked) (rw c.as_slice.ensures at c.in-Some.ensures)
+    (c.in_ok-text.ensures asked a) (rw c.as_slice.ensures at c.in-Some.ensures)
 
 pub returns : goal.returns
-returns c = λ asked.
-    unnamed (says c.args.self.now.zones.now) (site_of c.args.self.now) c.args.term (option_map (λ s. s.now) c.args.spec)
+returns c = λ asked a.
+    unnamed (says c.args.self.now.zones.now a) (site_of c.args.self.now) c.args.term (option_map (λ s. s.now) c.args.spec)
     (Unsettled cause.Target (at (site_of c.args.self.now) c.args.term)) (λ text name. name) c.in_ok-text.text c.open.result asked tt
-    (c.in_ok-text.ensures asked) (rw c.as_slice.ensures at c.in-None.ensures) c.open.ensures
+    (c.in_ok-text.ensures asked a) (rw c.as_slice.ensures at c.in-None.ensures) c.open.ensures

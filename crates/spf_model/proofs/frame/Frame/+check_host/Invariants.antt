@@ -23,5 +23,5 @@ abbrev pub invariant-try_terms-loop-term : goal.invariant-try_terms-loop-term
 invariant-try_terms-loop-term l = record {
   fit : TermsFit (drop l.term-index l.terms);
   grown : l.initial.counts.lookups ≤ l.counts.lookups;
-  leads : TriedSoFar (says l.self.context.zones.now) (site_of l.self.context) l.self.address l.terms l.initial.counts l.number (drop l.term-index l.terms) l.counts;
+  leads : TriedSoFar (says l.self.context.zones.now l.self.address) (site_of l.self.context) l.self.address l.terms l.initial.counts l.number (drop l.term-index l.terms) l.counts;
 }
