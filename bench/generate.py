@@ -1,5 +1,5 @@
 #!/usr/bin/env python3
-"""Zones to measure, each with the origin trial.example.
+"""Zones to measure, each with the origin trial.example, and that of `senders` with the origin example.com.
 
     generate.py zone START N    a policy, and eight lists of N random networks in all, which it includes
     generate.py comment N       N bytes `;`, which are no record
@@ -8,8 +8,10 @@
     generate.py exchanges N     a policy with an `mx` term, and N exchanges, each with an address of both families
     generate.py terms N         a record of 1,600 random networks, and N terms `a` behind them
     generate.py brands N        eight policies of N random networks each, of which neighbours share seven eighths
+    generate.py senders F N     a policy that asks for the reversed name of each address below list.example.com, and N names
+                                there, of random addresses of IPv4 where F is 4, and of IPv6 where it is 6
 """
-import ipaddress, sys
+import ipaddress, random, sys
 M64 = (1 << 64) - 1
 def draws(x):
     i = 0
@@ -50,7 +52,12 @@ def terms(n):
 def brands(n):
     nets = [term(q, b, a, l) for (i, q, b, a, l), _ in zip(draws(0), range(n + 7 * n // 8))]
     for k in range(8): print('b%d TXT %s' % (k, quoted(' '.join(['v=spf1'] + nets[k * n // 8:k * n // 8 + n] + ['~all']))))
-MODES = {'zone': (zone, 2), 'comment': (comment, 1), 'records': (records, 1), 'addresses': (addresses, 1), 'exchanges': (exchanges, 1), 'terms': (terms, 1), 'brands': (brands, 1)}
+def senders(family, n):
+    make, bits = {4: (ipaddress.IPv4Address, 32), 6: (ipaddress.IPv6Address, 128)}[family]
+    chance = random.Random(0)
+    print('@ TXT "v=spf1 exists:%{ir}.list.example.com -all"')
+    for _ in range(n): print('%s.list A 127.0.0.2' % make(chance.getrandbits(bits)).reverse_pointer.rsplit('.', 2)[0])
+MODES = {'zone': (zone, 2), 'comment': (comment, 1), 'records': (records, 1), 'addresses': (addresses, 1), 'exchanges': (exchanges, 1), 'terms': (terms, 1), 'brands': (brands, 1), 'senders': (senders, 2)}
 if __name__ == '__main__':
     mode, count = MODES.get(sys.argv[1] if len(sys.argv) > 1 else '', (None, 0))
     if mode is None or len(sys.argv) != 2 + count: sys.exit(__doc__)

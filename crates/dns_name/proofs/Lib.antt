@@ -5,3 +5,4 @@ pub mod Octets
 pub mod Splits
 pub mod Printing
 pub mod Texts
+pub mod Joins

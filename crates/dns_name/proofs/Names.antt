@@ -3,6 +3,7 @@ use Rattle.std.proofs.Common.{◌≡◌, ◌≢◌, ℕ, ◌+◌, ◌-◌, ◌<�
 use Rattle.std.proofs.lemmas.List.{length-map}
 use Rattle.std.proofs.lemmas.Bool.{eqb-false, ltb-false, ne_eqb, not-false}
 use Rattle.std.proofs.lemmas.Bool.Decides.{same_from_decides}
+use Rattle.std.specs.Bool.{one_answer}
 use Rattle.std.specs.Cmp.Lexicographic.{pointwise, pointwise_decides, bytes_decides}
 use Rattle.std.specs.List.{AllByRecursion}
 use Rattle.dns_name.specs.declared.fault.NameFault.{NameFault}
@@ -15,6 +16,18 @@ use Rattle.dns_name.proofs.Octets.{lowercase_octets, lowercase_twice}
 -- labels that are equal one by one are the same name
 pub same_name_decides : (a b : List (List ℕ)) → Decides (pointwise bytes_eq a b) (a ≡ b)
 same_name_decides a b = pointwise_decides bytes_decides a b
+
+-- octets on the wire are equal exactly where their labels are
+pub same_wire : (mine theirs : List ℕ) (own other : List (List ℕ)) → mine ≡ wire_form own → theirs ≡ wire_form other
+    → labels_in mine ≡ own → labels_in theirs ≡ other → bytes_eq mine theirs ≡ pointwise bytes_eq own other
+same_wire mine theirs own other m t o p =
+    one_answer (bytes_eq mine theirs) (pointwise bytes_eq own other) octets (same_name_decides own other)
+  where
+    octets : Decides (bytes_eq mine theirs) (own ≡ other)
+    octets = (
+      λ h. sym o ∙ ap labels_in ((bytes_decides mine theirs).0 h) ∙ p,
+      λ e. (bytes_decides mine theirs).1 (m ∙ ap wire_form e ∙ sym t),
+    )
 
 -- the test is that of the relation
 pub under_decides : (name top : List (List ℕ)) → Decides (is_under name top) (IsUnder name top)

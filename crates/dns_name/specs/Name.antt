@@ -1,5 +1,6 @@
 -- Names as lists of labels. A label is the list of its octets, the first label stands first, and the root has none.
-use Rattle.std.specs.Prelude.{◌≡◌, ℕ, ◌<◌, ◌≤◌, Bool, List, [], ◌∷◌, ◌++◌, map, length, Option, Some, None, Result, Ok, Err, bytes_eq, nat_lt, ◌==◌, if◌then◌else◌}
+use Rattle.std.specs.Prelude.{◌≡◌, ℕ, ◌<◌, ◌≤◌, Bool, List, [], ◌∷◌, ◌++◌, map, length, Option, Some, None, Result, Ok}
+use Rattle.std.specs.Prelude.{Err, bytes_eq, nat_lt, ◌==◌, if◌then◌else◌}
 use Rattle.std.specs.List.{AllByRecursion, ends_with, slice_split}
 use Rattle.std.specs.Char.{to_ascii_lowercase}
 use Rattle.dns_name.specs.declared.fault.NameFault.{NameFault}
@@ -59,12 +60,24 @@ fault_or None r = r
 -- project's own choice: labels as a name, or why they are none; a faulty label decides before the length
 abbrev pub name_of_labels : List (List ℕ) → Result (List (List ℕ)) NameFault
 name_of_labels labels =
-    fault_or (first_fault labels) (if nat_lt 255 (length (wire_form labels)) then Err NameLong else Ok (map lowercase_label labels))
+    fault_or (first_fault labels)
+    (if nat_lt 255 (length (wire_form labels)) then Err NameLong else Ok (map lowercase_label labels))
 
 -- RFC 1034, section 3.1: the label in front of the name
 abbrev pub child_of : List ℕ → List (List ℕ) → Result (List (List ℕ)) NameFault
 child_of label name =
-    fault_or (label_fault label) (if nat_lt 255 (length (wire_form (label ∷ name))) then Err NameLong else Ok (lowercase_label label ∷ name))
+    fault_or (label_fault label)
+    (if nat_lt 255 (length (wire_form (label ∷ name))) then Err NameLong else Ok (lowercase_label label ∷ name))
+
+-- RFC 1034, section 3.1: the label behind the last one of the name
+abbrev pub extended_of : List (List ℕ) → List ℕ → Result (List (List ℕ)) NameFault
+extended_of name label =
+    let long = nat_lt 255 (length (wire_form (name ++ label ∷ []))) in
+    fault_or (label_fault label) (if long then Err NameLong else Ok (name ++ lowercase_label label ∷ []))
+
+-- RFC 1034, section 3.1: all labels of one name, and then those of another
+abbrev pub joined_of : List (List ℕ) → List (List ℕ) → Result (List (List ℕ)) NameFault
+joined_of front name = if nat_lt 255 (length (wire_form (front ++ name))) then Err NameLong else Ok (front ++ name)
 
 -- RFC 1034, section 3.1: the first label; the root has none
 abbrev pub first_label_of : List (List ℕ) → Option (List ℕ)

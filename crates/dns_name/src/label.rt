@@ -1,5 +1,6 @@
 //! Labels, alone and on the wire.
-ghost use Rattle.std.specs.Prelude.{◌≡◌, ◌+◌, ◌<◌, ◌≤◌, None, Some, [], ◌∷◌, ◌++◌, length, map, MatchOption, MatchResult, bytes_eq};
+ghost use Rattle.std.specs.Prelude.{◌≡◌, ◌+◌, ◌-◌, ◌<◌, ◌≤◌, None, Some, [], ◌∷◌, ◌++◌, length, map, take, bytes_eq};
+ghost use Rattle.std.specs.Prelude.{MatchOption, MatchResult};
 ghost use Rattle.std.specs.Char.{to_ascii_lowercase};
 ghost use Rattle.arrayvec.specs.ArrayVec.{array_vec_len};
 ghost use Rattle.dns_name.specs.Name.{label_fault, first_fault, is_dot, IsWire};
@@ -89,4 +90,11 @@ pub(crate) fn append_lowercase(wire: &mut ArrayVec<u8, 255>, octets: &[u8])
     for octet in octets {
         wire.push(octet.to_ascii_lowercase());
     }
+}
+
+/// Drops the octet of the root from a name on the wire.
+pub(crate) fn drop_root(wire: &mut ArrayVec<u8, 255>)
+    ensures { wire.new.items ≡ take (array_vec_len wire.old - 1) wire.old.items }
+{
+    let _root = wire.pop();
 }

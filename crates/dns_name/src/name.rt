@@ -1,11 +1,13 @@
 //! Names, which contracts see as the list of their labels.
-ghost use Rattle.std.specs.Prelude.{◌≡◌, ℕ, ◌↔◌, List, [], length, IsTrue, None, IfOk, IfNone, IfSome, option_map};
+ghost use Rattle.std.specs.Prelude.{◌≡◌, ℕ, ◌↔◌, List, [], length, IsTrue, None, Ok, Err, option_map};
+ghost use Rattle.std.specs.Prelude.{IfOk, IfNone, IfSome, MatchResult, OnErr, OnOk};
 
 use crate::fault::NameFault;
 use crate::label::{
-    MAX_NAME, append, append_lowercase, check_label, check_labels, is_root_text, split_label,
-    without_final_dot,
+    MAX_NAME, append, append_lowercase, check_label, check_labels, drop_root, is_root_text,
+    split_label, without_final_dot,
 };
+use crate::labels::Labels;
 use crate::printed::{read_label, write_label};
 use arrayvec::ArrayVec;
 use std::alloc::{AllocError, Global};
@@ -88,9 +90,10 @@ impl Clone for Name {
 }
 
 impl Name {
-    ghost use Rattle.dns_name.specs.Name.{IsName, IsUnder, is_under, child_of, name_of_text, name_of_labels, first_fault, is_dot, first_label_of, parent_of};
+    ghost use Rattle.dns_name.specs.Name.{IsName, IsUnder, is_under, child_of, extended_of, joined_of};
+    ghost use Rattle.dns_name.specs.Name.{name_of_text, name_of_labels, first_fault, is_dot, first_label_of, parent_of};
     ghost use Rattle.dns_name.specs.Printed.{printed_name, IsPrinted};
-    ghost use Rattle.dns_name.specs.Wire.{wire_form};
+    ghost use Rattle.dns_name.specs.Wire.{labels_in, wire_form};
     ghost use Rattle.std.specs.List.{slice_split};
 
     /// The root, which is one octet on the wire.
@@ -118,6 +121,42 @@ impl Name {
         append_lowercase(&mut wire, label);
         append(&mut wire, &self.wire);
         Ok(Name { wire })
+    }
+
+    /// Puts the label behind the last one (RFC 1034, section 3.1). `EmptyLabel` and `LabelLong` come where the label is
+    /// none, and else `NameLong` where the name would have more than 255 octets on the wire. A refusal leaves the name
+    /// as it was.
+    pub fn push_label(&mut self, label: &[u8]) -> Result<(), NameFault>
+        ensures answer { MatchResult result (λ _. extended_of self.old label.now ≡ Ok self.new)
+            (λ fault. extended_of self.old label.now ≡ Err fault) }
+        ensures legal { OnOk result (IsName self.new) }
+        ensures stays { OnErr result (self.new ≡ self.old) }
+    {
+        check_label(label)?;
+        if self.wire.len() + 1 + label.len() > MAX_NAME {
+            return Err(NameFault::NameLong);
+        }
+        drop_root(&mut self.wire);
+        self.wire.push(label.len() as u8);
+        append_lowercase(&mut self.wire, label);
+        self.wire.push(0);
+        Ok(())
+    }
+
+    /// Puts the labels of the other name behind the last one (RFC 1034, section 3.1). `NameLong` comes where the name
+    /// would have more than 255 octets on the wire, and leaves it as it was.
+    pub fn push_name(&mut self, name: &Name) -> Result<(), NameFault>
+        ensures answer { MatchResult result (λ _. joined_of self.old name.now ≡ Ok self.new)
+            (λ fault. joined_of self.old name.now ≡ Err fault) }
+        ensures legal { OnOk result (IsName self.new) }
+        ensures stays { OnErr result (self.new ≡ self.old) }
+    {
+        if self.wire.len() + name.wire.len() > MAX_NAME + 1 {
+            return Err(NameFault::NameLong);
+        }
+        drop_root(&mut self.wire);
+        append(&mut self.wire, &name.wire);
+        Ok(())
     }
 
     /// The name that a text writes (RFC 1034, section 3.1): the text is cut at each dot after one final dot is dropped,
@@ -180,6 +219,22 @@ impl Name {
         Some(label)
     }
 
+    /// The labels, borrowed.
+    pub fn labels(&self) -> Labels<'_>
+        ensures labels { result ≡ self.now }
+        ensures legal { IsName result }
+    {
+        Labels { wire: &self.wire }
+    }
+
+    /// The octets on the wire.
+    pub(crate) fn wire(&self) -> &[u8]
+        ensures form { result.now ≡ wire_form self.now }
+        ensures labels { labels_in result.now ≡ self.now }
+    {
+        &self.wire
+    }
+
     /// The number of labels, 0 for the root.
     pub fn label_count(&self) -> usize
         ensures labels { result ≡ length self.now }
@@ -218,7 +273,8 @@ impl Name {
     }
 
     /// The printed form: labels joined by dots without a final dot, the root as `.`, and bytes that are not printed as
-    /// themselves as `\` and three decimal digits. It takes no memory: four bytes for each octet on the wire are enough.
+    /// themselves as `\` and three decimal digits. It takes no memory: four bytes for each octet on the wire are
+    /// enough.
     pub fn printed(&self) -> ArrayVec<u8, 1020>
         ensures { result.items ≡ printed_name self.now }
     {

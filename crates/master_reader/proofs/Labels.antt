@@ -1,12 +1,17 @@
 -- Names of the labels of a token.
-use Rattle.std.proofs.Common.{subst, ◌≡◌, ◌≢◌, ℕ, ◌<◌, Bool, true, false, cond, Ok, Err, List, [], ◌∷◌, ◌++◌, length, map, Option, Some, None, Result, refl, sym, ap, ap₂, ◌∙◌, arith, append_assoc, length-append, nat_lt, le-ltb, ltb-true, lt-ltb, ne_eqb}
+use Rattle.std.proofs.Common.{subst, ◌≡◌, ◌≢◌, ℕ, ◌<◌, Bool, true, false, cond, Ok, Err, List, [], ◌∷◌, ◌++◌, length}
+use Rattle.std.proofs.Common.{map, Option, Some, None, Result, refl, sym, ap, ap₂, ◌∙◌, arith, append_assoc}
+use Rattle.std.proofs.Common.{length-append, nat_lt, le-ltb, ltb-true, lt-ltb, ne_eqb}
 use Rattle.std.proofs.lemmas.List.{length-map, map-append}
 use Rattle.dns_name.specs.declared.fault.NameFault.{NameFault}
 use Rattle.dns_name.specs.declared.fault.NameFault.TheVariants.{EmptyLabel, LabelLong, NameLong}
 use Rattle.dns_name.specs.Wire.{wire_form}
-use Rattle.dns_name.specs.Name.{IsLabel, IsName, lowercase_label, label_fault, child_of, fault_or, first_fault, earlier_fault, name_of_labels}
+use Rattle.dns_name.specs.Name.{IsLabel, IsName, lowercase_label, label_fault, extended_of, joined_of, fault_or}
+use Rattle.dns_name.specs.Name.{first_fault, earlier_fault, name_of_labels}
 use Rattle.dns_name.specs.Parts.{ends_so}
-use Rattle.dns_name.proofs.Names.{back_name, length-back, no_fault_from_label}
+use Rattle.dns_name.proofs.Joins.{joined_len}
+use Rattle.dns_name.proofs.Names.{back_name, no_fault_from_label}
+use Rattle.dns_name.proofs.Wire.{length-wire_form}
 use Rattle.std.specs.List.{AllByRecursion}
 use Rattle.master_reader.specs.declared.fault.Kind.TheVariants.{BadName}
 use Rattle.master_reader.specs.Tokens.{or_bad_name}
@@ -41,30 +46,93 @@ length-lower (label ∷ labels) base =
     let same : length (lowercase_label label) ≡ length label = simp length-map in
     omega (arith, same, length-lower labels base, length-append label (wire_form (labels ++ base)), length-append (lowercase_label label) (wire_form (map lowercase_label labels ++ base)))
 
+-- a label that is none
+no_label : (front : List (List ℕ)) (label : List ℕ) (behind : List (List ℕ)) (fault : NameFault)
+    → label_fault label ≡ Some fault → Err BadName ≡ or_bad_name (name_of_labels (front ++ label ∷ behind))
+no_label front label behind fault is =
+    let labels = front ++ label ∷ behind in
+    fault_is_bad (first_fault labels)
+    (cond (nat_lt 255 (length (wire_form labels))) (Err NameLong) (Ok (map lowercase_label labels)))
+    (some_fault front label behind fault is)
+
+-- labels that are too long together
+too_long : (labels : List (List ℕ)) → 255 < length (wire_form labels)
+    → Err BadName ≡ or_bad_name (name_of_labels labels)
+too_long labels long =
+    length_is_bad (first_fault labels) labels
+    ∙ ap (λ t. or_bad_name (fault_or (first_fault labels) (cond t (Err NameLong) (Ok (map lowercase_label labels)))))
+    (sym (lt-ltb 255 (length (wire_form labels)) long))
+
 -- a label that is none, or that makes the name too long
-pub label_is_bad : (labels front : List (List ℕ)) (label : List ℕ) (behind base name : List (List ℕ)) (fault : NameFault) → labels ≡ front ++ label ∷ behind → name ≡ map lowercase_label behind ++ base → Err fault ≡ child_of label name
-    → Err BadName ≡ or_bad_name (name_of_labels (labels ++ base))
-label_is_bad labels front label behind base name fault cut low fails =
-    by (label_fault label) (nat_lt 255 (length (wire_form (label ∷ name)))) refl refl fails ∙ ap (λ l. or_bad_name (name_of_labels l)) (sym whole)
+pub label_is_bad : (labels front : List (List ℕ)) (label : List ℕ) (more base name : List (List ℕ))
+    (fault : NameFault) → labels ≡ front ++ label ∷ more → name ≡ map lowercase_label front
+    → extended_of name label ≡ Err fault → Err BadName ≡ or_bad_name (name_of_labels (labels ++ base))
+label_is_bad labels front label more base name fault cut low fails =
+    by (label_fault label) (nat_lt 255 (length (wire_form (name ++ label ∷ [])))) refl refl fails
+    ∙ ap (λ l. or_bad_name (name_of_labels l)) (sym whole)
   where
-    whole : labels ++ base ≡ front ++ label ∷ (behind ++ base)
-    whole = ap (λ l. l ++ base) cut ∙ append_assoc front (label ∷ behind) base
+    rest : List (List ℕ)
+    rest = more ++ base
 
-    longer : 255 < length (wire_form (label ∷ name)) → 255 < length (wire_form (front ++ label ∷ (behind ++ base)))
-    longer h = omega (arith, length-back front (label ∷ (behind ++ base)), ap (λ l. length (wire_form l)) low, length-lower behind base, length-append label (wire_form name), length-append label (wire_form (behind ++ base)))
+    whole : labels ++ base ≡ front ++ label ∷ rest
+    whole = ap (λ l. l ++ base) cut ∙ append_assoc front (label ∷ more) base
 
-    by : (f : Option NameFault) (t : Bool) → label_fault label ≡ f → nat_lt 255 (length (wire_form (label ∷ name))) ≡ t → Err fault ≡ fault_or f (cond t (Err NameLong) (Ok (lowercase_label label ∷ name))) → Err BadName ≡ or_bad_name (name_of_labels (front ++ label ∷ (behind ++ base)))
-    by (Some f) t is long e = fault_is_bad (first_fault (front ++ label ∷ (behind ++ base))) (cond (nat_lt 255 (length (wire_form (front ++ label ∷ (behind ++ base))))) (Err NameLong) (Ok (map lowercase_label (front ++ label ∷ (behind ++ base))))) (some_fault front label (behind ++ base) f is)
+    longer : 255 < length (wire_form (name ++ label ∷ [])) → 255 < length (wire_form (front ++ label ∷ rest))
+    longer h = omega (
+      arith,
+      h,
+      ap (λ l. length (wire_form (l ++ label ∷ []))) low,
+      length-lower front (label ∷ []),
+      joined_len front (label ∷ []),
+      joined_len front (label ∷ rest),
+      length-append label (0 ∷ []),
+      length-append label (wire_form rest),
+      length-wire_form rest,
+    )
+
+    by : (f : Option NameFault) (t : Bool) → label_fault label ≡ f
+        → nat_lt 255 (length (wire_form (name ++ label ∷ []))) ≡ t
+        → fault_or f (cond t (Err NameLong) (Ok (name ++ lowercase_label label ∷ []))) ≡ Err fault
+        → Err BadName ≡ or_bad_name (name_of_labels (front ++ label ∷ rest))
+    by (Some f) t is long e = no_label front label rest f is
     by None true is long e =
-        length_is_bad (first_fault (front ++ label ∷ (behind ++ base))) name
-        ∙ ap (λ t. or_bad_name (fault_or (first_fault (front ++ label ∷ (behind ++ base))) (cond t (Err NameLong) (Ok (map lowercase_label (front ++ label ∷ (behind ++ base))))))) (sym (lt-ltb 255 (length (wire_form (front ++ label ∷ (behind ++ base)))) (longer (ltb-true 255 (length (wire_form (label ∷ name))) long))))
+        too_long (front ++ label ∷ rest) (longer (ltb-true 255 (length (wire_form (name ++ label ∷ []))) long))
     by None false is long e = absurd cc
 
 -- a label of more than 63 octets
-pub long_label : (label : List ℕ) (name : List (List ℕ)) → 63 < length label → Err LabelLong ≡ child_of label name
+pub long_label : (label : List ℕ) (name : List (List ℕ)) → 63 < length label → extended_of name label ≡ Err LabelLong
 long_label label name h =
-    sym (ap (λ t. fault_or (cond t (Some EmptyLabel) (cond (nat_lt 63 (length label)) (Some LabelLong) None)) (cond (nat_lt 255 (length (wire_form (label ∷ name)))) (Err NameLong) (Ok (lowercase_label label ∷ name)))) (ne_eqb (length label) 0 (λ e. omega (arith, e, h)))
-    ∙ ap (λ t. fault_or (cond t (Some LabelLong) None) (cond (nat_lt 255 (length (wire_form (label ∷ name)))) (Err NameLong) (Ok (lowercase_label label ∷ name)))) (lt-ltb 63 (length label) h))
+    ap (λ t. fault_or (cond t (Some EmptyLabel) (cond (nat_lt 63 (length label)) (Some LabelLong) None)) other)
+    (ne_eqb (length label) 0 (λ e. omega (arith, e, h)))
+    ∙ ap (λ t. fault_or (cond t (Some LabelLong) None) other) (lt-ltb 63 (length label) h)
+  where
+    other : Result (List (List ℕ)) NameFault
+    other = cond (nat_lt 255 (length (wire_form (name ++ label ∷ [])))) (Err NameLong)
+        (Ok (name ++ lowercase_label label ∷ []))
+
+-- a name behind that makes the whole too long
+pub base_is_bad : (labels base name : List (List ℕ)) (fault : NameFault) → name ≡ map lowercase_label labels
+    → joined_of name base ≡ Err fault → Err BadName ≡ or_bad_name (name_of_labels (labels ++ base))
+base_is_bad labels base name fault low fails = by (nat_lt 255 (length (wire_form (name ++ base)))) refl fails
+  where
+    by : (t : Bool) → nat_lt 255 (length (wire_form (name ++ base))) ≡ t
+        → cond t (Err NameLong) (Ok (name ++ base)) ≡ Err fault
+        → Err BadName ≡ or_bad_name (name_of_labels (labels ++ base))
+    by true long e = too_long (labels ++ base) (omega (
+      arith,
+      ltb-true 255 (length (wire_form (name ++ base))) long,
+      ap (λ l. length (wire_form (l ++ base))) low,
+      length-lower labels base,
+    ))
+    by false long e = absurd cc
+
+-- the labels of both
+pub joined_is : (front name whole : List (List ℕ)) → joined_of front name ≡ Ok whole → whole ≡ front ++ name
+joined_is front name whole made = by (nat_lt 255 (length (wire_form (front ++ name)))) made
+  where
+    by : (t : Bool) → cond t (Err NameLong) (Ok (front ++ name)) ≡ Ok whole → whole ≡ front ++ name
+    by true e = absurd cc
+    by false e = cc
 
 -- ---- labels that are a name
 

@@ -1,5 +1,6 @@
 -- What a token says: its bytes, a word, a name.
-use Rattle.std.specs.Prelude.{ℕ, Bool, false, not, ◌&&◌, List, [], ◌∷◌, ◌++◌, map, length, take, drop, Result, Ok, Err, bytes_eq, nat_lt, ◌==◌, if◌then◌else◌}
+use Rattle.std.specs.Prelude.{ℕ, Bool, false, not, ◌&&◌, List, [], ◌∷◌, ◌++◌, map, length, take, drop, Result, Ok, Err}
+use Rattle.std.specs.Prelude.{bytes_eq, nat_lt, ◌==◌, if◌then◌else◌}
 use Rattle.std.specs.List.{list_any, list_all, slice_split}
 use Rattle.std.specs.Char.{is_ascii_digit}
 use Rattle.std.specs.Str.{str_to_ascii_lowercase}

@@ -1,5 +1,6 @@
 -- The forms of a TTL.
-use Rattle.std.specs.Prelude.{ℕ, ◌*◌, Bool, ◌&&◌, ◌||◌, List, [], ◌∷◌, length, sum_by, nat_lt, nat_le, ◌==◌, if◌then◌else◌}
+use Rattle.std.specs.Prelude.{ℕ, ◌*◌, Bool, ◌&&◌, ◌||◌, List, [], ◌∷◌, length, sum_by, nat_lt, nat_le, ◌==◌}
+use Rattle.std.specs.Prelude.{if◌then◌else◌}
 use Rattle.std.specs.List.{list_all, onto_first}
 use Rattle.std.specs.Char.{to_ascii_lowercase}
 use Rattle.std.specs.Str.Parse.{digits_value}
@@ -43,7 +44,8 @@ seconds_of group = digits_value 10 (without_final is_unit group) * unit_of group
 -- project's own choice: one or more groups, whose seconds together are at most 4,294,967,295
 abbrev pub are_groups : List ℕ → Bool
 are_groups bytes =
-    nat_lt 0 (length bytes) && list_all is_group (groups_in bytes) && nat_le (sum_by seconds_of (groups_in bytes)) 4294967295
+    nat_lt 0 (length bytes) && list_all is_group (groups_in bytes)
+    && nat_le (sum_by seconds_of (groups_in bytes)) 4294967295
 
 -- RFC 1035, section 5.1: digits alone; or groups, which are the project's own choice, as is the greatest value
 abbrev pub is_ttl : List ℕ → Bool

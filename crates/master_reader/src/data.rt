@@ -5,7 +5,8 @@ ghost use Rattle.addr_bits.specs.Address.{address_of};
 ghost use Rattle.master_reader.specs.declared.record.Body.TheVariants as bodies;
 ghost use Rattle.master_reader.specs.Tokens as tokens;
 ghost use Rattle.master_reader.specs.Entry as entries;
-ghost use Rattle.master_reader.specs.Data.{only_bare, address_body, IsAddressBody, IsBody, is_preference, is_long_text, mx_body, txt_body, other_body};
+ghost use Rattle.master_reader.specs.Data.{only_bare, address_body, IsAddressBody, IsBody, is_preference, is_long_text};
+ghost use Rattle.master_reader.specs.Data.{mx_body, txt_body, other_body};
 ghost use Rattle.master_reader.specs.Refusals.{RefusalIs};
 
 use crate::fault::{Kind, Refusal};

@@ -216,7 +216,8 @@ pub(crate) fn ask_of<'a>(
     ensures { MatchResult result
         (λ ask. entries.ask_of (record { origin = origin.now; owner = option_copied owner.entry }) entry.now ≡ Ok
         (ask_in ask))
-        (λ kind. entries.ask_of (record { origin = origin.now; owner = option_copied owner.entry }) entry.now ≡ Err kind) }
+        (λ kind. entries.ask_of (record { origin = origin.now; owner = option_copied owner.entry }) entry.now
+        ≡ Err kind) }
 {
     let tokens = entry.tokens.as_slice();
     if entry.blank {

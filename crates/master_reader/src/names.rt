@@ -45,16 +45,18 @@ fn name_in_front(units: &[Octet], behind: &Name) -> Result<Name, Kind>
     ensures { result ≡ tokens.or_bad_name (name_of_labels
         (map tokens.bytes_in (slice_split (tokens.is_unescaped 46) units.now) ++ behind.now)) }
 {
-    let mut name = behind.clone().unwrap();
-    for part in units.rsplit(|octet| is_unescaped(*octet, b'.')) {
+    let mut name = Name::root();
+    for part in units.split(|octet| is_unescaped(*octet, b'.')) {
         let Some(label) = label_of(part) else {
             return Err(Kind::BadName);
         };
-        let Ok(child) = name.child(&label) else {
+        let Ok(()) = name.push_label(&label) else {
             return Err(Kind::BadName);
         };
-        name = child;
     }
+    let Ok(()) = name.push_name(behind) else {
+        return Err(Kind::BadName);
+    };
     Ok(name)
 }
 

@@ -1,13 +1,16 @@
 -- What is read of a name's labels, one label more at a time.
-use Rattle.std.proofs.Common.{◌≡◌, ◌≢◌, ℕ, zero, suc, ◌+◌, ◌-◌, ◌*◌, ◌/◌, ◌%◌, ◌^◌, ◌<◌, ◌≤◌, ◌⊎◌, inl, inr, Bool, true, false, IsTrue, List, [], ◌∷◌, length, refl, sym, ap, ap₂, ◌∙◌, subst, arith, length-append, true≢false, Some}
+use Rattle.std.proofs.Common.{◌≡◌, ◌≢◌, ℕ, zero, suc, ◌+◌, ◌-◌, ◌*◌, ◌/◌, ◌%◌, ◌^◌, ◌<◌, ◌≤◌, ◌⊎◌, inl, inr, Bool, true}
+use Rattle.std.proofs.Common.{false, IsTrue, List, [], ◌∷◌, length, refl, sym, ap, ap₂, ◌∙◌, subst, arith}
+use Rattle.std.proofs.Common.{length-append, true≢false}
 use Rattle.std.proofs.lemmas.Nat.{pow_pos, mod_below}
 use Rattle.addr_bits.specs.declared.address.Family.{Family}
-use Rattle.dns_name.specs.Name.{IsUnder, first_label_of, parent_of}
+use Rattle.dns_name.specs.Name.{IsUnder}
 use Rattle.zone_answers.specs.Reversed.{label_bits, label_count, label_of, digits_name}
 use Rattle.reverse_names.specs.declared.path.Reading.{Reading}
 use Rattle.reverse_names.specs.Tree.{IsRead}
 use Rattle.reverse_names.proofs.Nodes.{shifted}
-use Rattle.reverse_names.proofs.Digits.{name_len, one_name, name_more, cut_more, cut_none, longer, shorter, none_below_one}
+use Rattle.reverse_names.proofs.Digits.{name_len, one_name, name_more, cut_more, cut_none, longer, shorter}
+use Rattle.reverse_names.proofs.Digits.{none_below_one}
 
 under_len : (name top : List (List ℕ)) → IsUnder name top → length top ≤ length name
 under_len name top (front, e) = omega (arith, ap length e, length-append front top)
@@ -128,24 +131,29 @@ read_other f suffix above label read r stops = record {
 
 -- ---- as the code reads a label
 
-pub digit_read : (f : Family) (suffix name above : List (List ℕ)) (read : Reading) (digit digits bits : ℕ) → parent_of name ≡ Some above → first_label_of name ≡ Some (label_of f digit)
-    → IsRead f suffix above read → read.whole ≡ true → read.depth < label_count f → digit < 2 ^ label_bits f → bits ≡ label_bits f → digits ≡ read.digits * 2 ^ bits % 2 ^ 128 + digit
+pub digit_read : (f : Family) (suffix name above : List (List ℕ)) (label : List ℕ) (read : Reading)
+    (digit digits bits : ℕ) → name ≡ label ∷ above → label ≡ label_of f digit → IsRead f suffix above read
+    → read.whole ≡ true → read.depth < label_count f → digit < 2 ^ label_bits f → bits ≡ label_bits f
+    → digits ≡ read.digits * 2 ^ bits % 2 ^ 128 + digit
     → IsRead f suffix name (record { digits = digits; depth = read.depth + 1; whole = true })
-digit_read f suffix [] above read digit digits bits p l r w room small b is = absurd cc
-digit_read f suffix (label ∷ rest) above read digit digits bits p l r w room small b is =
-    let rest_is : rest ≡ above = cc in
-    let label_is : label ≡ label_of f digit = cc in
-    let one : IsRead f suffix (label ∷ above) (record { digits = read.digits * 2 ^ label_bits f + digit; depth = suc read.depth; whole = true }) = read_digit f suffix above label digit read r w room small label_is in
-    let two : IsRead f suffix (label ∷ rest) (record { digits = read.digits * 2 ^ label_bits f + digit; depth = suc read.depth; whole = true }) = subst (λ (n : List (List ℕ)). IsRead f suffix (label ∷ n) (record { digits = read.digits * 2 ^ label_bits f + digit; depth = suc read.depth; whole = true })) (sym rest_is) one in
-    let sum : digits ≡ read.digits * 2 ^ label_bits f + digit = is ∙ ap (λ (n : ℕ). read.digits * 2 ^ n % 2 ^ 128 + digit) b ∙ ap (λ (n : ℕ). n + digit) (shifted f read.digits read.depth room r.digits) in
-    let three : IsRead f suffix (label ∷ rest) (record { digits = digits; depth = suc read.depth; whole = true }) = subst (λ (n : ℕ). IsRead f suffix (label ∷ rest) (record { digits = n; depth = suc read.depth; whole = true })) (sym sum) two in
-    subst (λ (n : ℕ). IsRead f suffix (label ∷ rest) (record { digits = digits; depth = n; whole = true })) (omega arith) three
+digit_read f suffix name above label read digit digits bits cut l r w room small b is =
+    let more : ℕ = read.digits * 2 ^ label_bits f + digit in
+    let sum : digits ≡ more =
+    is ∙ ap (λ (n : ℕ). read.digits * 2 ^ n % 2 ^ 128 + digit) b
+    ∙ ap (λ (n : ℕ). n + digit) (shifted f read.digits read.depth room r.digits) in
+    subst (λ (n : List (List ℕ)).
+    IsRead f suffix n (record { digits = digits; depth = read.depth + 1; whole = true })) (sym cut)
+    (subst (λ (n : ℕ).
+    IsRead f suffix (label ∷ above) (record { digits = n; depth = read.depth + 1; whole = true })) (sym sum)
+    (subst (λ (n : ℕ). IsRead f suffix (label ∷ above) (record { digits = more; depth = n; whole = true }))
+    (omega arith) (read_digit f suffix above label digit read r w room small l)))
 
-pub other_read : (f : Family) (suffix name above : List (List ℕ)) (read : Reading) → parent_of name ≡ Some above → IsRead f suffix above read
-    → (IsTrue read.whole → read.depth < label_count f → (digit : ℕ) → digit < 2 ^ label_bits f → first_label_of name ≢ Some (label_of f digit))
+pub other_read : (f : Family) (suffix name above : List (List ℕ)) (label : List ℕ) (read : Reading)
+    → name ≡ label ∷ above → IsRead f suffix above read
+    → (IsTrue read.whole → read.depth < label_count f → (digit : ℕ) → digit < 2 ^ label_bits f
+    → label ≢ label_of f digit)
     → IsRead f suffix name (record { digits = read.digits; depth = read.depth; whole = false })
-other_read f suffix [] above read p r stops = absurd cc
-other_read f suffix (label ∷ rest) above read p r stops =
-    let rest_is : rest ≡ above = cc in
-    subst (λ (n : List (List ℕ)). IsRead f suffix (label ∷ n) (record { digits = read.digits; depth = read.depth; whole = false })) (sym rest_is)
-    (read_other f suffix above label read r (λ w room digit small e. stops w room digit small (ap Some e)))
+other_read f suffix name above label read cut r stops =
+    subst (λ (n : List (List ℕ)).
+    IsRead f suffix n (record { digits = read.digits; depth = read.depth; whole = false })) (sym cut)
+    (read_other f suffix above label read r stops)

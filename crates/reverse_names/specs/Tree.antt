@@ -1,6 +1,7 @@
 -- The tree of reversed names below a suffix, and the nodes that lent names lead to. All of it is the project's own, and
 -- no contract of another crate speaks of it.
-use Rattle.std.specs.Prelude.{◌≡◌, ◌≢◌, ℕ, zero, suc, ◌-◌, ◌*◌, ◌/◌, ◌^◌, ◌<◌, ◌≤◌, ◌==◌, nat_lt, Bool, true, false, not, ◌&&◌, List, [], ◌∷◌, IsTrue, IsFalse, if◌then◌else◌}
+use Rattle.std.specs.Prelude.{◌≡◌, ◌≢◌, ℕ, zero, suc, ◌-◌, ◌*◌, ◌/◌, ◌^◌, ◌<◌, ◌≤◌, ◌==◌, nat_lt, Bool, true, false}
+use Rattle.std.specs.Prelude.{not, ◌&&◌, List, [], ◌∷◌, IsTrue, IsFalse, if◌then◌else◌}
 use Rattle.std.specs.List.{list_any, All, AllZip}
 use Rattle.addr_bits.specs.Address.{bits_of}
 use Rattle.addr_bits.specs.declared.address.Family.{Family}
@@ -9,7 +10,8 @@ use Rattle.zone_answers.specs.declared.answer.QKind.TheVariants as kind
 use Rattle.zone_answers.specs.declared.class.Class.{Class}
 use Rattle.zone_answers.specs.Zone.{Zone}
 use Rattle.zone_answers.specs.Answers.{answer_of}
-use Rattle.zone_answers.specs.Reversed.{label_bits, label_count, digits_name, class_of, is_bare, is_parted_at, answer_below}
+use Rattle.zone_answers.specs.Reversed.{label_bits, label_count, digits_name, class_of, is_bare, is_parted_at}
+use Rattle.zone_answers.specs.Reversed.{answer_below}
 use Rattle.reverse_names.specs.declared.path.Reading.{Reading}
 use Rattle.reverse_names.specs.declared.path.Path.{Path}
 

@@ -1,14 +1,14 @@
 //! The tree of reversed names, and how far lent names follow it.
-ghost use Rattle.std.specs.Prelude.{◌≡◌, ◌≢◌, ◌<◌, ◌≤◌, ◌+◌, ◌-◌, ◌*◌, ◌^◌, ℕ, Some, IfSome, IfNone, IfOk, IsTrue};
+ghost use Rattle.std.specs.Prelude.{◌≡◌, ◌≢◌, ◌<◌, ◌≤◌, ◌+◌, ◌-◌, ◌*◌, ◌^◌, ℕ, IfSome, IfNone, IfOk, IsTrue};
 ghost use Rattle.std.specs.List.{All};
 ghost use Rattle.addr_bits.specs.Address.{bits_of};
-ghost use Rattle.dns_name.specs.Name.{IsUnder, first_label_of};
+ghost use Rattle.dns_name.specs.Name.{IsUnder};
 ghost use Rattle.zone_answers.specs.Reversed.{label_bits, label_count, label_of};
 ghost use Rattle.reverse_names.specs.Tree.{ArePaths, ArePathsTo, IsPath, IsRead, first_digits};
 
 use crate::digit::digit_of;
 use addr_bits::{Family, Items};
-use dns_name::Name;
+use dns_name::{Labels, Name};
 use std::alloc::{AllocError, Global};
 use zone_answers::Zones;
 
@@ -58,38 +58,38 @@ struct Reading {
     whole: bool,
 }
 
-/// The digit that the name's first label adds to what is read of the labels behind it.
-fn next_digit(family: Family, name: &Name, read: &Reading) -> Option<u8>
+/// The digit that a label adds to what is read of the labels behind it.
+fn next_digit(family: Family, label: &[u8], read: &Reading) -> Option<u8>
     ensures whole { IfSome result (λ digit. IsTrue read.now.whole) }
     ensures room { IfSome result (λ digit. read.now.depth < label_count family) }
     ensures below { IfSome result (λ digit. digit < 2 ^ label_bits family) }
-    ensures label { IfSome result (λ digit. first_label_of name.now ≡ Some (label_of family digit)) }
+    ensures label { IfSome result (λ digit. label.now ≡ label_of family digit) }
     ensures none { IfNone result (IsTrue read.now.whole → read.now.depth < label_count family
-        → (digit : ℕ) → digit < 2 ^ label_bits family → first_label_of name.now ≢ Some (label_of family digit)) }
+        → (digit : ℕ) → digit < 2 ^ label_bits family → label.now ≢ label_of family digit) }
 {
     if !read.whole || read.depth >= label_count(family) {
         return None;
     }
-    digit_of(family, name.first_label()?)
+    digit_of(family, label)
 }
 
 /// Reads the labels of a name from the suffix outward.
-fn read_name(family: Family, name: &Name, suffix: &Name) -> Reading
-    requires { IsUnder name.now suffix.now }
-    ensures { IsRead family suffix.now name.now result }
+fn read_labels(family: Family, labels: &Labels, suffix: &Name) -> Reading
+    requires { IsUnder labels.now suffix.now }
+    ensures { IsRead family suffix.now labels.now result }
 {
-    if *name == *suffix {
+    if labels.are_all_of(suffix) {
         return Reading {
             digits: 0,
             depth: 0,
             whole: true,
         };
     }
-    let Some(above) = name.parent() else {
+    let Some((label, behind)) = labels.split_first() else {
         unreachable!();
     };
-    let read = read_name(family, &above, suffix);
-    match next_digit(family, name, &read) {
+    let read = read_labels(family, &behind, suffix);
+    match next_digit(family, label, &read) {
         Some(digit) => Reading {
             digits: (read.digits << label_bits(family)) + u128::from(digit),
             depth: read.depth + 1,
@@ -118,7 +118,7 @@ fn path_of(family: Family, name: &Name, suffix: &Name) -> Path
     requires { IsUnder name.now suffix.now }
     ensures { IsPath family suffix.now name.now result }
 {
-    let read = read_name(family, name, suffix);
+    let read = read_labels(family, &name.labels(), suffix);
     let start = if read.depth == 0 {
         0
     } else {

@@ -1,5 +1,6 @@
 //! The classes of the answers at the reversed names of all addresses of a family, as sets.
-ghost use Rattle.std.specs.Prelude.{◌≡◌, ◌≢◌, ◌==◌, ◌<◌, ◌≤◌, ◌+◌, ◌^◌, ◌↔◌, ℕ, true, false, length, Some, IfOk, OnOk, IsFalse, if◌then◌else◌};
+ghost use Rattle.std.specs.Prelude.{◌≡◌, ◌≢◌, ◌==◌, ◌<◌, ◌≤◌, ◌+◌, ◌^◌, ◌↔◌, ℕ, true, false, length, Some, IfOk, OnOk};
+ghost use Rattle.std.specs.Prelude.{IsFalse, if◌then◌else◌};
 ghost use Rattle.std.specs.List.{All, list_any};
 ghost use Rattle.addr_bits.specs.Address.{address_of, bits_of};
 ghost use Rattle.addr_bits.specs.Prefix.{Covers};
@@ -191,8 +192,8 @@ fn set_level<W: AddressFamily>(
 }
 
 /// The class of the answer for A at the reversed name of each address of the family below the suffix (RFC 7208,
-/// sections 5.7 and 7.2). Its work grows with the names lent at or below the suffix, not with the addresses. `AllocError` where
-/// there is no memory.
+/// sections 5.7 and 7.2). Its work grows with the names lent at or below the suffix, not with the addresses.
+/// `AllocError` where there is no memory.
 pub fn reverse_sets<W: AddressFamily>(
     alloc: Global,
     zones: &Zones,

@@ -1,5 +1,6 @@
 -- Keys of names: what stands at or below a name has a key that begins with the name's.
-use Rattle.std.proofs.Common.{◌≡◌, ℕ, ◌+◌, ◌<◌, ◌≤◌, true, false, ◌&&◌, ◌==◌, List, [], ◌∷◌, ◌++◌, length, refl, sym, ap, ap₂, subst, ◌∙◌, true≢false, arith, append_assoc, length-append, Some, eqb-true, eq-eqb}
+use Rattle.std.proofs.Common.{◌≡◌, ℕ, ◌<◌, true, false, ◌&&◌, ◌==◌, List, [], ◌∷◌, ◌++◌, length, refl, sym, ap, ap₂}
+use Rattle.std.proofs.Common.{subst, ◌∙◌, true≢false, arith, append_assoc, eqb-true, eq-eqb}
 use Rattle.std.proofs.lemmas.Bool.{and_parts, and_from}
 use Rattle.std.proofs.lemmas.List.{append-nil}
 use Rattle.std.specs.Cmp.Lexicographic.{slice_cmp}
@@ -10,8 +11,7 @@ use Rattle.std.specs.Cmp.{ranks}
 use Rattle.std.specs.declared.cmp.Ordering.{Ordering}
 use Rattle.std.specs.declared.cmp.Ordering.TheVariants.{Less, Equal, Greater}
 use Rattle.std.proofs.lemmas.Cmp.{nat_cmp_total, tied_itself}
-use Rattle.dns_name.specs.Wire.{wire_form}
-use Rattle.dns_name.specs.Name.{first_label_of, is_under, parent_of}
+use Rattle.dns_name.specs.Name.{is_under}
 use Rattle.zone_answers.specs.Order.{begins, key_of}
 use Rattle.zone_answers.proofs.Bare.{both_same, under_test, under_shown}
 
@@ -153,11 +153,3 @@ between (k ∷ key) (x ∷ middle) (y ∷ later) h p q =
     let parts = and_parts (k == y) (begins key later) h in
     let at : is_lt (ordering_then (nat_cmp k x) (order later middle)) ≡ false = ap (λ (z : ℕ). is_lt (ordering_then (nat_cmp z x) (order later middle))) (eqb-true k y parts.0) ∙ q in
     at_key k x key middle later (nat_cmp x k) refl (nat_cmp_total.antisymm k x) p at (between key middle later parts.1)
-
--- ---- room for a key
-
-pub key_room : (name above : List (List ℕ)) (label key : List ℕ) → Some label ≡ first_label_of name → Some above ≡ parent_of name → length (wire_form name) ≤ 255 → length key + 1 ≡ length (wire_form above) → length key + 1 + length label ≤ 255
-key_room [] above label key f p short len = absurd cc
-key_room (l ∷ rest) above label key f p short len =
-    let same : label ≡ l = cc in let tail : above ≡ rest = cc in
-    omega (arith, short, len, ap length same, ap (λ (n : List (List ℕ)). length (wire_form n)) tail, length-append l (wire_form rest))

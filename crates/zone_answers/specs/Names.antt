@@ -1,5 +1,6 @@
 -- What the other calls say of a name. They are the project's own.
-use Rattle.std.specs.Prelude.{ℕ, Bool, false, ◌||◌, List, [], length, Option, Some, None, sum_by, is_some, if◌then◌else◌}
+use Rattle.std.specs.Prelude.{ℕ, Bool, false, ◌||◌, List, [], length, Option, Some, None, sum_by, is_some}
+use Rattle.std.specs.Prelude.{if◌then◌else◌}
 use Rattle.std.specs.List.{list_any, concat}
 use Rattle.spf_text.specs.Version.{is_spf_text}
 use Rattle.dns_name.specs.Name.{is_under}

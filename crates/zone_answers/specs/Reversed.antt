@@ -1,5 +1,6 @@
 -- The reversed names of addresses, and what is answered there.
-use Rattle.std.specs.Prelude.{ℕ, zero, suc, ◌/◌, ◌%◌, ◌^◌, Bool, not, ◌||◌, ◌&&◌, ◌≡◌, List, [], ◌∷◌, ◌++◌, Option, Some, None, decimal, if◌then◌else◌}
+use Rattle.std.specs.Prelude.{ℕ, zero, suc, ◌/◌, ◌%◌, ◌^◌, Bool, not, ◌||◌, ◌&&◌, ◌≡◌, List, [], ◌∷◌, ◌++◌, Option}
+use Rattle.std.specs.Prelude.{Some, None, decimal, if◌then◌else◌}
 use Rattle.std.specs.Char.{digit_char}
 use Rattle.std.specs.List.{list_any}
 use Rattle.addr_bits.specs.declared.address.Address.{Address}
@@ -14,7 +15,8 @@ use Rattle.zone_answers.specs.declared.answer.Answer.TheVariants.{Outside, NoNam
 use Rattle.zone_answers.specs.declared.class.Class.{Class}
 use Rattle.zone_answers.specs.declared.class.Class.TheVariants.{Hit, Void, Beyond, Round}
 use Rattle.zone_answers.specs.Zone.{Zone}
-use Rattle.zone_answers.specs.Answers.{answer_of, answer_within, zone_of, is_cut_off, is_delegation, at_node, has_record, name_exists, closest_above}
+use Rattle.zone_answers.specs.Answers.{answer_of, answer_within, zone_of, is_cut_off, is_delegation, at_node}
+use Rattle.zone_answers.specs.Answers.{has_record, name_exists, closest_above}
 use Rattle.zone_answers.specs.Same.{same_name}
 
 -- as many of the last digits of a number, each of so many bits, the last first, each as a label

@@ -13,7 +13,8 @@ ghost use Rattle.zone_answers.specs.declared.answer.Answer.TheVariants.{Found};
 ghost use Rattle.zone_answers.specs.declared.answer.QKind.{QKind};
 ghost use Rattle.zone_answers.specs.Zone.{Zone};
 ghost use Rattle.zone_answers.specs.Answers.{answer_of};
-ghost use Rattle.zone_answers.specs.Reversed.{AreNamesUnder, answer_below, is_bare, is_plain, reversed_labels, reversed_name};
+ghost use Rattle.zone_answers.specs.Reversed.{AreNamesUnder, answer_below, is_bare, is_plain, reversed_labels};
+ghost use Rattle.zone_answers.specs.Reversed.{reversed_name};
 ghost use Rattle.zone_answers.specs.Lend.{AreLendable, AreZones, IsBodyFit};
 
 /// The records of a master file may be lent as those of its zone.

@@ -1,15 +1,15 @@
 //! The owners of a zone's records, in the order of their keys.
-ghost use Rattle.std.specs.Prelude.{◌≡◌, ℕ, ◌+◌, ◌≤◌, ◌&&◌, Bool, true, false, length, IfOk, take, drop};
+ghost use Rattle.std.specs.Prelude.{◌≡◌, ℕ, ◌+◌, ◌≤◌, ◌&&◌, ◌++◌, Bool, true, false, length, IfOk, take, drop};
+ghost use Rattle.arrayvec.specs.ArrayVec.{array_vec_len};
 ghost use Rattle.std.specs.List.{AllByRecursion, list_any};
 ghost use Rattle.std.specs.Cmp.Lexicographic.{slice_cmp};
 ghost use Rattle.std.specs.Ordering.{is_lt, nat_cmp};
-ghost use Rattle.dns_name.specs.Name.{IsName};
 ghost use Rattle.dns_name.specs.Wire.{wire_form};
 ghost use Rattle.zone_answers.specs.declared.order.Entry.{Entry};
 ghost use Rattle.zone_answers.specs.Order.{ArePlaced, AreSorted, begins, key_of};
 
 use arrayvec::ArrayVec;
-use dns_name::Name;
+use dns_name::{Labels, Name};
 use master_reader::Record;
 use std::alloc::{AllocError, Global};
 use std::cmp::Ordering;
@@ -94,7 +94,7 @@ impl Entry {
     fn is_before(&self, key: &[u8]) -> bool
         ensures { result ≡ is_lt (slice_cmp nat_cmp self.now.key.items key.now) }
     {
-        self.key.as_slice() < key
+        self.key.as_slice().cmp(key).is_lt()
     }
 }
 
@@ -124,27 +124,23 @@ fn owners_of(alloc: Global, records: &[Record]) -> Result<Vec<Entry>, AllocError
 pub(crate) fn key_of(name: &Name) -> ArrayVec<u8, 255>
     ensures { result.items ≡ key_of name.now }
 {
-    // `label_count` tells the checker that the name is legal.
-    let _labels = name.label_count();
-    key_from(name)
+    let mut key = ArrayVec::new();
+    push_key(&name.labels(), &mut key);
+    key
 }
 
-/// The key of a legal name.
-fn key_from(name: &Name) -> ArrayVec<u8, 255>
-    requires { IsName name.now }
-    ensures key { result.items ≡ key_of name.now }
-    ensures len { length result.items + 1 ≡ length (wire_form name.now) }
+/// Appends the key of a name, for which there is room.
+fn push_key(labels: &Labels, key: &mut ArrayVec<u8, 255>)
+    requires { array_vec_len key.old + length (wire_form labels.now) ≤ 256 }
+    ensures key { key.new.items ≡ key.old.items ++ key_of labels.now }
+    ensures len { array_vec_len key.new + 1 ≡ array_vec_len key.old + length (wire_form labels.now) }
 {
-    let Some(label) = name.first_label() else {
-        return ArrayVec::new();
+    let Some((label, above)) = labels.split_first() else {
+        return;
     };
-    let Some(above) = name.parent() else {
-        return ArrayVec::new();
-    };
-    let mut key = key_from(&above);
+    push_key(&above, key);
     key.push(label.len() as u8);
     key.try_extend_from_slice(label).unwrap();
-    key
 }
 
 /// Whether the key of an entry begins with this one.

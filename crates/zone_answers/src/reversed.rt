@@ -1,10 +1,11 @@
 //! The reversed names of addresses, and the nodes of their tree.
-ghost use Rattle.std.specs.Prelude.{◌≡◌, ◌<◌, ◌≤◌, ◌+◌, ◌*◌, ◌^◌, ◌∷◌, length, decimal};
+ghost use Rattle.std.specs.Prelude.{◌≡◌, ◌<◌, ◌≤◌, ◌+◌, ◌*◌, ◌/◌, ◌%◌, ◌^◌, [], ◌∷◌, ◌++◌, length, decimal};
 ghost use Rattle.std.specs.Char.{digit_char};
 ghost use Rattle.addr_bits.specs.Address.{IsAddress};
 ghost use Rattle.dns_name.specs.Name.{IsLabel, lowercase_label};
 ghost use Rattle.dns_name.specs.Wire.{wire_form};
-ghost use Rattle.zone_answers.specs.Reversed.{digit_label, digits_name, label_bits, label_count, label_octets, label_of, reversed_name};
+ghost use Rattle.zone_answers.specs.Reversed.{digit_label, digits_name, label_bits, label_count, label_octets};
+ghost use Rattle.zone_answers.specs.Reversed.{label_of, last_digits, reversed_name};
 
 use addr_bits::{Address, Family};
 use dns_name::Name;
@@ -31,55 +32,79 @@ pub fn digits_name(family: Family, count: u32, digits: u128, suffix: &Name) -> N
     ensures name { result ≡ digits_name family count digits suffix.now }
     ensures short { length (wire_form result) ≤ length (wire_form suffix.now) + count * label_octets family }
 {
+    let mut name = Name::root();
+    push_digits(family, count, digits, &mut name);
+    match name.push_name(suffix) {
+        Ok(()) => name,
+        Err(_) => unreachable!(),
+    }
+}
+
+/// Puts the labels of the last digits behind the last label of the name, as many as told, the last first.
+fn push_digits(family: Family, count: u32, digits: u128, name: &mut Name)
+    requires count { count ≤ label_count family }
+    requires room { length (wire_form name.old) + count * label_octets family ≤ 255 }
+    ensures name { name.new ≡ name.old ++ last_digits (label_bits family) (label_of family) count digits }
+    ensures short { length (wire_form name.new) ≤ length (wire_form name.old) + count * label_octets family }
+{
     if count == 0 {
-        return suffix.clone().unwrap();
+        return;
     }
-    let radix = radix(family);
-    let above = digits_name(family, count - 1, digits / radix, suffix);
-    digit_name(family, (digits % radix) as u8, &above)
+    push_digit(family, last_digit(family, digits), name);
+    push_digits(family, count - 1, front_digits(family, digits), name);
 }
 
-/// The name with the label of an octet (IPv4) or of a digit below 16 (IPv6) in front. It takes no memory.
-pub fn digit_name(family: Family, digit: u8, above: &Name) -> Name
+/// The last digit.
+fn last_digit(family: Family, digits: u128) -> u8
+    ensures { result ≡ digits % 2 ^ label_bits family }
+{
+    match family {
+        Family::V4 => (digits % 256) as u8,
+        Family::V6 => (digits % 16) as u8,
+    }
+}
+
+/// The digits in front of the last one.
+fn front_digits(family: Family, digits: u128) -> u128
+    ensures { result ≡ digits / 2 ^ label_bits family }
+{
+    match family {
+        Family::V4 => digits / 256,
+        Family::V6 => digits / 16,
+    }
+}
+
+/// Puts the label of an octet (IPv4) or of a digit below 16 (IPv6) behind the last label of the name.
+fn push_digit(family: Family, digit: u8, name: &mut Name)
     requires digit { digit < 2 ^ label_bits family }
-    requires room { length (wire_form above.now) + label_octets family ≤ 255 }
-    ensures name { result ≡ label_of family digit ∷ above.now }
-    ensures short { length (wire_form result) ≤ length (wire_form above.now) + label_octets family }
+    requires room { length (wire_form name.old) + label_octets family ≤ 255 }
+    ensures name { name.new ≡ name.old ++ label_of family digit ∷ [] }
+    ensures short { length (wire_form name.new) ≤ length (wire_form name.old) + label_octets family }
 {
     match family {
-        Family::V4 => octet_name(digit, above),
-        Family::V6 => hex_name(digit, above),
+        Family::V4 => push_octet(digit, name),
+        Family::V6 => push_hex(digit, name),
     }
 }
 
-/// The number of different labels.
-fn radix(family: Family) -> u128
-    ensures { result ≡ 2 ^ label_bits family }
-{
-    match family {
-        Family::V4 => 256,
-        Family::V6 => 16,
-    }
-}
-
-/// The name with an octet as a decimal number in front (RFC 1035, section 3.5).
-fn octet_name(octet: u8, above: &Name) -> Name
-    requires { length (wire_form above.now) + 4 ≤ 255 }
-    ensures name { result ≡ decimal octet ∷ above.now }
-    ensures short { length (wire_form result) ≤ length (wire_form above.now) + 4 }
+/// Puts an octet as a decimal number behind the last label of the name (RFC 1035, section 3.5).
+fn push_octet(octet: u8, name: &mut Name)
+    requires { length (wire_form name.old) + 4 ≤ 255 }
+    ensures name { name.new ≡ name.old ++ decimal octet ∷ [] }
+    ensures short { length (wire_form name.new) ≤ length (wire_form name.old) + 4 }
 {
     let mut buffer = Buffer::new();
-    front_of(buffer.format(octet).as_bytes(), above)
+    push_behind(buffer.format(octet).as_bytes(), name);
 }
 
-/// The name with a hexadecimal digit in lower case in front (RFC 3596, section 2.5).
-fn hex_name(digit: u8, above: &Name) -> Name
+/// Puts a hexadecimal digit in lower case behind the last label of the name (RFC 3596, section 2.5).
+fn push_hex(digit: u8, name: &mut Name)
     requires digit { digit < 16 }
-    requires room { length (wire_form above.now) + 2 ≤ 255 }
-    ensures name { result ≡ digit_label digit ∷ above.now }
-    ensures short { length (wire_form result) ≤ length (wire_form above.now) + 2 }
+    requires room { length (wire_form name.old) + 2 ≤ 255 }
+    ensures name { name.new ≡ name.old ++ digit_label digit ∷ [] }
+    ensures short { length (wire_form name.new) ≤ length (wire_form name.old) + 2 }
 {
-    front_of(&[hex_digit(digit)], above)
+    push_behind(&[hex_digit(digit)], name);
 }
 
 /// The hexadecimal digit in lower case.
@@ -93,16 +118,16 @@ fn hex_digit(digit: u8) -> u8
     }
 }
 
-/// The name with a label in front that is legal and in lower case.
-fn front_of(label: &[u8], above: &Name) -> Name
+/// Puts a label that is legal and in lower case behind the last label of the name.
+fn push_behind(label: &[u8], name: &mut Name)
     requires label { IsLabel label.now }
     requires lower { lowercase_label label.now ≡ label.now }
-    requires room { length (wire_form above.now) + length label.now + 1 ≤ 255 }
-    ensures name { result ≡ label.now ∷ above.now }
-    ensures len { length (wire_form result) ≡ length (wire_form above.now) + length label.now + 1 }
+    requires room { length (wire_form name.old) + length label.now + 1 ≤ 255 }
+    ensures name { name.new ≡ name.old ++ label.now ∷ [] }
+    ensures len { length (wire_form name.new) ≡ length (wire_form name.old) + length label.now + 1 }
 {
-    match above.child(label) {
-        Ok(name) => name,
+    match name.push_label(label) {
+        Ok(()) => (),
         Err(_) => unreachable!(),
     }
 }

@@ -1,14 +1,17 @@
 //! One lent zone.
-ghost use Rattle.std.specs.Prelude.{◌≡◌, ℕ, ◌≤◌, ◌&&◌, ◌||◌, List, OnOk, length, filter, filter_map, sum_by, IfOk, IfSome, IsFalse, MatchOption};
+ghost use Rattle.std.specs.Prelude.{◌≡◌, ℕ, ◌≤◌, ◌&&◌, ◌||◌, List, OnOk, length, filter, filter_map, sum_by, IfOk};
+ghost use Rattle.std.specs.Prelude.{IfSome, IsFalse, MatchOption};
 ghost use Rattle.std.specs.List.{list_any};
 ghost use Rattle.std.specs.Option.{option_copied};
 ghost use Rattle.dns_name.specs.Name.{IsUnder, is_under};
 ghost use Rattle.dns_name.specs.Wire.{wire_form};
 ghost use Rattle.zone_answers.specs.Same.{distinct_records, same_name};
-ghost use Rattle.zone_answers.specs.Answers.{bodies_at, closest_above, is_cut_off, is_delegation, is_of, name_exists, node_of, target_of, has_record};
+ghost use Rattle.zone_answers.specs.Answers.{bodies_at, closest_above, is_cut_off, is_delegation, is_of, name_exists};
+ghost use Rattle.zone_answers.specs.Answers.{node_of, target_of, has_record};
 ghost use Rattle.zone_answers.specs.Names.{other_len};
 ghost use Rattle.zone_answers.specs.Reversed.{closest_at, node_below};
-ghost use Rattle.zone_answers.specs.Index.{body_at, counts, stands_at, first_of, has_delegation, places_from, target_in};
+ghost use Rattle.zone_answers.specs.Index.{body_at, counts, stands_at, first_of, has_delegation, places_from};
+ghost use Rattle.zone_answers.specs.Index.{target_in};
 ghost use Rattle.zone_answers.specs.Lend.{AreLendable, IsBodyFit, IsLeastClash, has_clash};
 
 use crate::answer::{Bodies, QKind};

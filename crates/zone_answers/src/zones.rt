@@ -1,5 +1,6 @@
 //! The lent zones.
-ghost use Rattle.std.specs.Prelude.{◌≡◌, ℕ, ◌&&◌, List, [], ◌∷◌, ◌++◌, Some, find, length, sum_by, ◌≤◌, IfOk, IfErr, OnOk, OnErr};
+ghost use Rattle.std.specs.Prelude.{◌≡◌, ℕ, ◌&&◌, List, [], ◌∷◌, ◌++◌, Some, find, length, sum_by, ◌≤◌, IfOk, IfErr};
+ghost use Rattle.std.specs.Prelude.{OnOk, OnErr};
 ghost use Rattle.std.specs.List.{list_any};
 ghost use Rattle.std.specs.Option.{option_copied};
 ghost use Rattle.dns_name.specs.Name.{is_under};
@@ -152,8 +153,8 @@ impl Zones {
         self.answer(&reversed_name(address, suffix), QKind::A)
     }
 
-    /// The answer at any name below this one that has a label there at or below which nothing is lent (RFC 4592). Only a
-    /// name of at most 253 octets on the wire has names below it.
+    /// The answer at any name below this one that has a label there at or below which nothing is lent (RFC 4592). Only
+    /// a name of at most 253 octets on the wire has names below it.
     pub fn answer_below(&self, name: &Name, kind: QKind) -> Result<Answer, AllocError>
         requires room { length (wire_form name.now) ≤ 253 }
         ensures { IfOk result (λ answer. answer ≡ answer_below self.now name.now kind) }
