@@ -4,3 +4,4 @@ pub mod Watching
 pub mod Asked
 pub mod Appending
 pub mod KeptWell
+pub mod Texts

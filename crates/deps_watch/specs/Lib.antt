@@ -1,3 +1,4 @@
 pub mod Keeping
 pub mod Freshness
 pub mod Laws
+pub mod Reversals

@@ -4,6 +4,7 @@
 mod fresh;
 mod keeping;
 mod laws;
+mod reversals;
 mod text;
 
 pub use fresh::{Freshness, stale};

@@ -22,7 +22,7 @@ fn plain_text(alloc: Global, zones: &Zones, name: &Name, kind: QKind) -> Result<
 }
 
 /// The text of the answers at the reversed names of all addresses of a family below a name.
-fn reversed_text<W: AddressFamily>(
+pub(crate) fn reversed_text<W: AddressFamily>(
     alloc: Global,
     zones: &Zones,
     name: &Name,

@@ -9,8 +9,11 @@ use Rattle.job_compare.specs.Laws.{compare_ready, one_compare, compare_lawful}
 use Rattle.job_compile.specs.Laws.{compile_ready, one_compile, compile_lawful}
 use Rattle.job_deps.specs.Laws.{deps_ready, one_deps, deps_lawful}
 use Rattle.job_join.specs.Laws.{join_ready, one_join, join_lawful}
+use Rattle.job_keep.specs.Laws.{keep_ready, one_keep, keep_lawful}
+use Rattle.job_stale.specs.Laws.{stale_ready, one_stale, stale_lawful}
 use Rattle.spfc_top.specs.declared.any_job.AnyJob.{AnyJob}
 use Rattle.spfc_top.specs.declared.any_job.AnyJob.TheVariants.{Check, Compile, Deps, Verify, Trial, Compare, Join}
+use Rattle.spfc_top.specs.declared.any_job.AnyJob.TheVariants.{Keep, Stale}
 use Rattle.job_verify.specs.Laws.{verify_ready, one_verify, verify_lawful}
 use Rattle.job_trial.specs.Laws.{trial_ready, one_trial_spelled, trial_lawful}
 use Rattle.spfc_top.specs.AnyJob.{command_of, SpellsBehind, SpellsAny, meaning_of}
@@ -23,6 +26,8 @@ ready_behind words (Verify job) is = verify_ready words job is
 ready_behind words (Trial job) is = trial_ready words job is
 ready_behind words (Compare job) is = compare_ready words job is
 ready_behind words (Join job) is = join_ready words job is
+ready_behind words (Keep job) is = keep_ready words job is
+ready_behind words (Stale job) is = stale_ready words job is
 
 -- the words of a job make it ready
 pub any_ready : (words : List (List ℕ)) (job : AnyJob) → SpellsAny words job → (meaning_of job).IsReady
@@ -39,6 +44,8 @@ one_behind words (Verify a) (Verify b) e x y = ap Verify (one_verify words a b x
 one_behind words (Trial a) (Trial b) e x y = ap Trial (one_trial_spelled words a b x y)
 one_behind words (Compare a) (Compare b) e x y = ap Compare (one_compare words a b x y)
 one_behind words (Join a) (Join b) e x y = ap Join (one_join words a b x y)
+one_behind words (Keep a) (Keep b) e x y = ap Keep (one_keep words a b x y)
+one_behind words (Stale a) (Stale b) e x y = ap Stale (one_stale words a b x y)
 one_behind words a b e x y = absurd (false≢true ((bytes_eq-Decides (command_of a) (command_of b)).1 e))
 
 -- words spell one job at most
@@ -55,3 +62,5 @@ any_lawful (Verify job) = verify_lawful job
 any_lawful (Trial job) = trial_lawful job
 any_lawful (Compare job) = compare_lawful job
 any_lawful (Join job) = join_lawful job
+any_lawful (Keep job) = keep_lawful job
+any_lawful (Stale job) = stale_lawful job

@@ -9,6 +9,8 @@ use job_compare::Compare;
 use job_compile::Compile;
 use job_deps::Deps;
 use job_join::Join;
+use job_keep::Keep;
+use job_stale::Stale;
 use job_trial::Trial;
 use job_verify::Verify;
 use jobs::{Job, Output};
@@ -33,6 +35,10 @@ pub enum AnyJob {
     Compare(Compare),
     /// `join DOMAIN DOMAIN.. OPTIONS ORIGIN=FILE..`
     Join(Join),
+    /// `keep DOMAIN READING ORIGIN=FILE..`
+    Keep(Keep),
+    /// `stale FILE ORIGIN=FILE..`
+    Stale(Stale),
 }
 
 /// The job that the words after the program's name spell; `None` exactly where they spell none.
@@ -69,6 +75,8 @@ impl Job for AnyJob {
             "trial" => Ok(Trial::read(alloc, rest)?.map(AnyJob::Trial)),
             "compare" => Ok(Compare::read(alloc, rest)?.map(AnyJob::Compare)),
             "join" => Ok(Join::read(alloc, rest)?.map(AnyJob::Join)),
+            "keep" => Ok(Keep::read(alloc, rest)?.map(AnyJob::Keep)),
+            "stale" => Ok(Stale::read(alloc, rest)?.map(AnyJob::Stale)),
             _ => Ok(None),
         }
     }
@@ -82,6 +90,8 @@ impl Job for AnyJob {
             AnyJob::Trial(job) => job.inputs(),
             AnyJob::Compare(job) => job.inputs(),
             AnyJob::Join(job) => job.inputs(),
+            AnyJob::Keep(job) => job.inputs(),
+            AnyJob::Stale(job) => job.inputs(),
         }
     }
 
@@ -94,6 +104,8 @@ impl Job for AnyJob {
             AnyJob::Trial(job) => job.perform(alloc, loaded),
             AnyJob::Compare(job) => job.perform(alloc, loaded),
             AnyJob::Join(job) => job.perform(alloc, loaded),
+            AnyJob::Keep(job) => job.perform(alloc, loaded),
+            AnyJob::Stale(job) => job.perform(alloc, loaded),
         }
     }
 }

@@ -6,8 +6,8 @@ use spfc_outer::{Auditor, Keep};
 use std::alloc::AllocError;
 use zone_answers::Question;
 
-/// Tells each listener the question, in order. One that says that it is done leaves the list and is dropped. Where one has
-/// no memory, those behind it are not told.
+/// Tells each listener the question, in order. One that says that it is done leaves the list and is dropped. Where one
+/// has no memory, those behind it are not told.
 pub(crate) fn tell_row(
     row: &mut Vec<Box<dyn Auditor>>,
     question: &Question,

@@ -8,8 +8,8 @@ use spfc_outer::Auditor;
 use std::alloc::AllocError;
 use zone_answers::Question;
 
-/// Tells each of the questions, in order, to each listener, in order. One that says that it is done leaves the list and is
-/// dropped. Where one has no memory, the telling breaks off.
+/// Tells each of the questions, in order, to each listener, in order. One that says that it is done leaves the list and
+/// is dropped. Where one has no memory, the telling breaks off.
 pub(crate) fn tell_all(
     row: &mut Vec<Box<dyn Auditor>>,
     asked: &[Question],

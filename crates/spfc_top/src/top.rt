@@ -11,7 +11,8 @@ use spfc_outer::{Auditor, Failed, Files, Sink, write_whole};
 use std::alloc::{AllocError, Global};
 
 /// Does the job that the words give, and answers the status. Behind all computing and before the first byte is written,
-/// each listener is told each question of the job's output; one that says that it is done leaves the list and is dropped.
+/// each listener is told each question of the job's output; one that says that it is done leaves the list and is
+/// dropped.
 ///
 /// | Status | What happened | What was written |
 /// |---|---|---|
@@ -44,12 +45,21 @@ pub fn run<F: Files, K: Sink, E: Sink>(
     // by at most 10 lookups and no void lookup. Of `verify`, the numbers of terms and of records of a file that is read
     // as a chain of records: these fit, and of their list no cut that fits at their names has fewer; over them alone
     // check_host gives each address the verdict that it has over the zones, and no list that does has fewer terms.
+    // Of `deps`, the questions that check_host asks for some address: over all other zones that answer them alike,
+    // every address has the same outcome. Of `compare`, the changes from the verdicts of the first policy to those of
+    // the second: `equal` exactly where these are the same for each address. Of `join`, a shortest list, in such
+    // records at the first domain, of the strongest of the verdicts that check_host gives each address for the domains,
+    // or of the weakest. Of `keep`, the kept list of the domain, which is read back with its domain, its limits and its
+    // lines: over all other zones that agree with each line, every address has the same outcome. Of `stale`, whether
+    // each line of the kept list agrees with the zones, or the question of the first that does not: where the file is
+    // what was kept of a domain over some other zones, and is fresh, every address has the outcome that it has over
+    // these.
     ensures best { result ≡ 0 → HasBest jobs (turn words.now
         (step F.seen files.old files.new) (step K.seen out.old out.new) (step E.seen err.old err.new)
         (hearing (λ b. hears b) auditors.old auditors.new)) }
 
-    // 1, 2, 3 and 8: the words give a job, it is refused so, and `err` gained the line. At these statuses, at 4 and at 5
-    // the listeners are as they were.
+    // 1, 2, 3 and 8: the words give a job, it is refused so, and `err` gained the line. At these statuses, at 4 and at
+    // 5 the listeners are as they were.
     ensures finding { IsFindingStatus result → HasFound jobs (turn words.now
         (step F.seen files.old files.new) (step K.seen out.old out.new) (step E.seen err.old err.new)
         (hearing (λ b. hears b) auditors.old auditors.new)) result }
@@ -64,8 +74,8 @@ pub fn run<F: Files, K: Sink, E: Sink>(
         (step F.seen files.old files.new) (step K.seen out.old out.new) (step E.seen err.old err.new)
         (hearing (λ b. hears b) auditors.old auditors.new)) }
 
-    // 6: the count of `out` or of `err` rose, that one gained a proper prefix of what was due; the other is untouched. In
-    // the first case the listeners were told the questions, in the second they are as they were.
+    // 6: the count of `out` or of `err` rose, that one gained a proper prefix of what was due; the other is untouched.
+    // In the first case the listeners were told the questions, in the second they are as they were.
     ensures write_fault { result ≡ 6 → HasWriteFault jobs (turn words.now
         (step F.seen files.old files.new) (step K.seen out.old out.new) (step E.seen err.old err.new)
         (hearing (λ b. hears b) auditors.old auditors.new)) }
