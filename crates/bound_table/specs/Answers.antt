@@ -9,7 +9,8 @@ use Rattle.bound_table.specs.declared.table.TableFault.TheVariants.{NotTable, Me
 use Rattle.bound_table.specs.Placed.{PlacedRow}
 use Rattle.spf_grammar.specs.declared.verdict.Verdict.{Verdict}
 use Rattle.bound_table.specs.Rounds.{IsGoodAsPlaced, IsNamed}
-use Rattle.bound_table.specs.Reading.{is_table_line, AreTable, HaveRows, IsMisspelled, SpellsNothing, SpellsRow, SpellsTotal}
+use Rattle.bound_table.specs.Reading.{is_table_line, AreTable, HaveRows, IsMisspelled, SpellsNothing, SpellsRow}
+use Rattle.bound_table.specs.Reading.{SpellsTotal}
 
 -- the table of the lines, or the line that the first round names, or no memory
 abbrev pub IsTableAnswer : List (List ℕ) → Result Table TableFault → Type 0

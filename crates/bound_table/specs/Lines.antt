@@ -8,7 +8,8 @@ use Rattle.fewest_terms.specs.Row.{NeedRow}
 
 -- a space before each number: fail, softfail, pass and neutral
 abbrev pub needs_text : Needs → List ℕ
-needs_text needs = 32 ∷ decimal needs.fail ++ 32 ∷ decimal needs.softfail ++ 32 ∷ decimal needs.pass ++ 32 ∷ decimal needs.neutral
+needs_text needs =
+    32 ∷ decimal needs.fail ++ 32 ∷ decimal needs.softfail ++ 32 ∷ decimal needs.pass ++ 32 ∷ decimal needs.neutral
 
 -- a prefix in written form, always with its length, and what it needs
 abbrev pub row_line : (address : List ℕ) → (len : ℕ) → Needs → List ℕ

@@ -1,6 +1,7 @@
 -- The tables that the lines of a file are, which are the project's own format: what the lines spell, and the first of
 -- the three rounds in which they are judged.
-use Rattle.std.specs.Prelude.{ℕ, ◌≡◌, ◌+◌, ◌<◌, ◌^◌, ◌==◌, Bool, true, false, ◌||◌, if◌then◌else◌, ◌⊎◌, List, [], ◌∷◌, ◌++◌, length, codes, decimal}
+use Rattle.std.specs.Prelude.{ℕ, ◌≡◌, ◌+◌, ◌<◌, ◌^◌, ◌==◌, Bool, true, false, ◌||◌, if◌then◌else◌, ◌⊎◌, List, [], ◌∷◌}
+use Rattle.std.specs.Prelude.{◌++◌, length, codes, decimal}
 use Rattle.std.specs.List.{starts_with, list_any}
 use Rattle.addr_bits.specs.Address.{bits_of, text_in}
 use Rattle.addr_bits.specs.Prefix.{IsCidr}

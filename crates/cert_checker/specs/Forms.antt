@@ -1,5 +1,6 @@
 -- The records of a chain, whoever wrote them: each but the last is a TXT record that redirects to the next one.
-use Rattle.std.specs.Prelude.{◌≡◌, ⊤, ℕ, ◌+◌, ◌<◌, ◌≤◌, ◌==◌, Bool, true, false, not, ◌&&◌, ◌⊎◌, IsTrue, IsFalse, List, [], ◌∷◌, length, Option, Some, None, Ok, Err, Result, if◌then◌else◌}
+use Rattle.std.specs.Prelude.{◌≡◌, ⊤, ℕ, ◌+◌, ◌<◌, ◌≤◌, ◌==◌, Bool, true, false, not, ◌&&◌, ◌⊎◌, IsTrue, IsFalse, List}
+use Rattle.std.specs.Prelude.{[], ◌∷◌, length, Option, Some, None, Ok, Err, Result, if◌then◌else◌}
 use Rattle.std.specs.List.{list_all, list_any}
 use Rattle.addr_bits.specs.declared.address.Family.{Family}
 use Rattle.dns_name.specs.Name.{name_of_text}

@@ -1,5 +1,6 @@
 //! Reading the texts of records that lead from one to the next.
-ghost use Rattle.std.specs.Prelude.{◌≡◌, ◌≤◌, ◌∷◌, ◌↔◌, [], List, drop, length, not, IsTrue, IfOk, MatchOption, Some, option_map};
+ghost use Rattle.std.specs.Prelude.{◌≡◌, ◌≤◌, ◌∷◌, ◌↔◌, [], List, drop, length, not, IsTrue, IfOk, MatchOption, Some};
+ghost use Rattle.std.specs.Prelude.{option_map};
 ghost use Rattle.std.specs.List.{list_all};
 ghost use Rattle.spf_macros.specs.Grammar.{is_expand};
 ghost use Rattle.spf_model.specs.Judging as judging;

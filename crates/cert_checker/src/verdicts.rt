@@ -1,9 +1,11 @@
 //! Whether a list gives each address its verdict.
-ghost use Rattle.std.specs.Prelude.{◌≡◌, ◌≢◌, ◌<◌, ◌^◌, ℕ, false, IfOk, IfSome, IfNone, IsSomeAnd, MatchBool, MatchOption, OnOk, Some, if◌then◌else◌};
+ghost use Rattle.std.specs.Prelude.{◌≡◌, ◌≢◌, ◌<◌, ◌^◌, ℕ, false, IfOk, IfSome, IfNone, IsSomeAnd, MatchBool};
+ghost use Rattle.std.specs.Prelude.{MatchOption, OnOk, Some, if◌then◌else◌};
 ghost use Rattle.addr_bits.specs.Address.{address_of};
 ghost use Rattle.prefix_trie.specs.Leaves.{CoverInOrder, value_at};
 ghost use Rattle.spf_grammar.specs.Flat.{covers, first};
-ghost use Rattle.cert_checker.specs.Likeness.{AllAlike, AreAlike, Differs, IsFirstUnlike, IsLeastTrue, IsLeastUnlike, is_in_part};
+ghost use Rattle.cert_checker.specs.Likeness.{AllAlike, AreAlike, Differs, IsFirstUnlike, IsLeastTrue, IsLeastUnlike};
+ghost use Rattle.cert_checker.specs.Likeness.{is_in_part};
 
 use addr_bits::{Address, Prefix, Width};
 use prefix_trie::TrieMap;

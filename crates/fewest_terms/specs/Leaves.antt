@@ -1,5 +1,6 @@
 -- The verdicts of a trie, and what belongs to each prefix in the list of its leaves: definitions of the project's own.
-use Rattle.std.specs.Prelude.{ℕ, zero, suc, ◌≡◌, ◌+◌, ◌-◌, ◌*◌, ◌/◌, ◌^◌, nat_le, if◌then◌else◌, List, [], ◌∷◌, ◌++◌, drop, Option, Some, None}
+use Rattle.std.specs.Prelude.{ℕ, zero, suc, ◌≡◌, ◌+◌, ◌-◌, ◌*◌, ◌/◌, ◌^◌, nat_le, if◌then◌else◌, List, [], ◌∷◌, ◌++◌}
+use Rattle.std.specs.Prelude.{drop, Option, Some, None}
 use Rattle.addr_bits.specs.Prefix.{Cidr}
 use Rattle.addr_bits.specs.Blocks.{lowest, prefix_of}
 use Rattle.prefix_trie.specs.Leaves.{value_at}
@@ -53,7 +54,15 @@ unfoldable pub sum_rows : (w : ℕ) → (ℕ → Verdict) → (k n : ℕ) → Li
 sum_rows w v zero n = []
 sum_rows w v (suc k) n =
     if is_mixed v (suc k) n
-    then record { prefix = prefix_of w (suc k) n; needs = record { fail = need_of_halves v k n Fail; softfail = need_of_halves v k n SoftFail; pass = need_of_halves v k n Pass; neutral = need_of_halves v k n Neutral } }
+    then record {
+      prefix = prefix_of w (suc k) n;
+      needs = record {
+        fail = need_of_halves v k n Fail;
+        softfail = need_of_halves v k n SoftFail;
+        pass = need_of_halves v k n Pass;
+        neutral = need_of_halves v k n Neutral;
+      };
+    }
     ∷ (sum_rows w v k (2 * n) ++ sum_rows w v k (2 * n + 1))
     else []
 
@@ -80,7 +89,12 @@ passed_down s c = if nat_le (s c) (1 + least s) then c else best s
 
 -- the rule for a mixed prefix, for each verdict
 abbrev pub ruled : Needs → Needs
-ruled s = record { fail = at_mixed (number s) Fail; softfail = at_mixed (number s) SoftFail; pass = at_mixed (number s) Pass; neutral = at_mixed (number s) Neutral }
+ruled s = record {
+  fail = at_mixed (number s) Fail;
+  softfail = at_mixed (number s) SoftFail;
+  pass = at_mixed (number s) Pass;
+  neutral = at_mixed (number s) Neutral;
+}
 
 abbrev pub ruled_row : NeedRow → NeedRow
 ruled_row r = record { prefix = r.prefix; needs = ruled r.needs }

@@ -1,6 +1,7 @@
 -- Mixed prefixes, and how many terms a prefix needs: definitions of the project's own, over lists whose first match
 -- decides (RFC 7208, section 4.6.2). v is the verdict of each address of one family.
-use Rattle.std.specs.Prelude.{ℕ, zero, suc, ◌≡◌, ◌≢◌, ◌↔◌, ◌+◌, ◌*◌, ◌≤◌, min, Bool, false, ◌||◌, not, if◌then◌else◌, List, IsTrue}
+use Rattle.std.specs.Prelude.{ℕ, zero, suc, ◌≡◌, ◌≢◌, ◌↔◌, ◌+◌, ◌*◌, ◌≤◌, min, Bool, false, ◌||◌, not, if◌then◌else◌}
+use Rattle.std.specs.Prelude.{List, IsTrue}
 use Rattle.spf_grammar.specs.declared.verdict.Verdict.{Verdict}
 use Rattle.fewest_terms.specs.Verdicts.{is_same, cost, least}
 use Rattle.addr_bits.specs.Blocks.{LiesIn, lowest}
@@ -14,7 +15,8 @@ Mixed v k n = (a b : ℕ) × LiesIn k n a × LiesIn k n b × (v a ≢ v b)
 unfoldable pub is_mixed : (ℕ → Verdict) → (k n : ℕ) → Bool
 is_mixed v zero n = false
 is_mixed v (suc k) n =
-    is_mixed v k (2 * n) || (is_mixed v k (2 * n + 1) || not (is_same (v (lowest k (2 * n))) (v (lowest k (2 * n + 1)))))
+    is_mixed v k (2 * n)
+    || (is_mixed v k (2 * n + 1) || not (is_same (v (lowest k (2 * n))) (v (lowest k (2 * n + 1)))))
 
 -- the right side of the rule of `need`, where s x is what both halves take under the verdict x
 abbrev pub at_mixed : (Verdict → ℕ) → Verdict → ℕ

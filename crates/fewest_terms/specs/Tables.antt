@@ -1,5 +1,6 @@
 -- Tables of needs, by which anyone can see that no list is shorter: definitions of the project's own.
-use Rattle.std.specs.Prelude.{ℕ, zero, suc, ◌≡◌, ◌+◌, ◌-◌, ◌*◌, ◌/◌, ◌^◌, ◌≤◌, if◌then◌else◌, List, [], ◌∷◌, ◌++◌, length, drop, map}
+use Rattle.std.specs.Prelude.{ℕ, zero, suc, ◌≡◌, ◌+◌, ◌-◌, ◌*◌, ◌/◌, ◌^◌, ◌≤◌, if◌then◌else◌, List, [], ◌∷◌, ◌++◌}
+use Rattle.std.specs.Prelude.{length, drop, map}
 use Rattle.spf_grammar.specs.declared.verdict.Verdict.{Verdict}
 use Rattle.spf_grammar.specs.declared.verdict.Verdict.TheVariants.{Fail, SoftFail, Pass, Neutral}
 use Rattle.spf_grammar.specs.declared.flat.FlatTerm.{FlatTerm}
@@ -39,7 +40,8 @@ claimed v k n rows c = if is_mixed v k n then first_number rows c else cost (v (
 -- what the rows after that of a prefix claim that its halves need together, where the rows of the lower half stand
 -- first
 unfoldable pub claimed_of_halves : (ℕ → Verdict) → (k n : ℕ) → List NeedRow → Verdict → ℕ
-claimed_of_halves v k n rows c = claimed v k (2 * n) rows c + claimed v k (2 * n + 1) (drop (mixed_count v k (2 * n)) rows) c
+claimed_of_halves v k n rows c =
+    claimed v k (2 * n) rows c + claimed v k (2 * n + 1) (drop (mixed_count v k (2 * n)) rows) c
 
 -- the row rule: with the rows that follow, each number of a row is at most what the rule for `need` gives
 abbrev pub KeepsRowRule : (w : ℕ) → (ℕ → Verdict) → NeedRow → List NeedRow → Type 0
@@ -76,7 +78,12 @@ TableBounds =
 
 -- the four needs of a prefix
 abbrev pub needs_of : (ℕ → Verdict) → (k n : ℕ) → Needs
-needs_of v k n = record { fail = need v k n Fail; softfail = need v k n SoftFail; pass = need v k n Pass; neutral = need v k n Neutral }
+needs_of v k n = record {
+  fail = need v k n Fail;
+  softfail = need v k n SoftFail;
+  pass = need v k n Pass;
+  neutral = need v k n Neutral;
+}
 
 -- the rows of needs, in the order of the mixed prefixes
 unfoldable pub need_rows : (w : ℕ) → (ℕ → Verdict) → (k n : ℕ) → List NeedRow

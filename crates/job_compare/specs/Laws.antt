@@ -82,9 +82,11 @@ changes_once : (job : Compare) (loaded : Loaded) (v4 v6 w4 w6 x4 x6 y4 y6 : ℕ 
     → OneHas job loaded (verdict_at x4 x6) → TwoHas job loaded (verdict_at y4 y6)
     → AreChanges v4 v6 w4 w6 p → AreChanges x4 x6 y4 y6 q → p ≡ q
 changes_once job loaded v4 v6 w4 w6 x4 x6 y4 y6 p q one two one' two' are are' =
-    let firsts = one_verdict (says loaded.zones) job.limits job.one.text (verdict_at v4 v6) (verdict_at x4 x6) one one' in
+    let firsts =
+    one_verdict (says loaded.zones) job.limits job.one.text (verdict_at v4 v6) (verdict_at x4 x6) one one' in
     let seconds =
-    one_verdict (says (second_zones job loaded)) job.limits job.two.text (verdict_at w4 w6) (verdict_at y4 y6) two two' in
+    one_verdict (says (second_zones job loaded)) job.limits job.two.text (verdict_at w4 w6) (verdict_at y4 y6) two
+    two' in
     one_list_of_changes v4 v6 w4 w6 x4 x6 y4 y6 p q (λ a below. firsts (V4 a) below) (λ a below. firsts (V6 a) below)
     (λ a below. seconds (V4 a) below) (λ a below. seconds (V6 a) below) are are'
 
@@ -123,9 +125,11 @@ moved : (zones : List Zone) (job : Compare) (domain : List ℕ) (v4 v6 w4 w6 : �
     → Agree 128 v6 w6 → model.AllHave (says zones) job.limits domain (verdict_at w4 w6)
     → model.AllHave (says zones) job.limits domain (verdict_at v4 v6)
 moved zones job domain v4 v6 w4 w6 four six all (V4 a) below =
-    subst (λ (v : Verdict). model.Gives (says zones) job.limits domain (V4 a) (Is v)) (sym (four a below)) (all (V4 a) below)
+    subst (λ (v : Verdict). model.Gives (says zones) job.limits domain (V4 a) (Is v)) (sym (four a below))
+    (all (V4 a) below)
 moved zones job domain v4 v6 w4 w6 four six all (V6 a) below =
-    subst (λ (v : Verdict). model.Gives (says zones) job.limits domain (V6 a) (Is v)) (sym (six a below)) (all (V6 a) below)
+    subst (λ (v : Verdict). model.Gives (says zones) job.limits domain (V6 a) (Is v)) (sym (six a below))
+    (all (V6 a) below)
 
 equal_both : (job : Compare) (loaded : Loaded) (v4 v6 w4 w6 : ℕ → Verdict) → OneHas job loaded (verdict_at v4 v6)
     → TwoHas job loaded (verdict_at w4 w6) → Agree 32 v4 w4 × Agree 128 v6 w6 → AreEqual job loaded

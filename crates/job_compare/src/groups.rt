@@ -18,8 +18,8 @@ pub struct Groups {
     pub second: Group,
 }
 
-/// The zones that the words name: those of the first group, and behind the word `with` those of the second. `None` where
-/// these are no such words.
+/// The zones that the words name: those of the first group, and behind the word `with` those of the second. `None`
+/// where these are no such words.
 pub(crate) fn read_groups(alloc: Global, words: &[String]) -> Result<Option<Groups>, AllocError>
     ensures { IfOk result (λ groups. MatchOption groups
         ((any : Groups) → ¬ AreGroups (texts words.now) any) (AreGroups (texts words.now))) }

@@ -33,7 +33,9 @@ one_trial_spelled (start ∷ networks ∷ []) a b x y =
 one_due : (job : Trial) (loaded : Loaded) (x y : Due) → TrialJobDue job loaded x → TrialJobDue job loaded y
     → x ≡ y
 one_due job loaded x y (summary, due, is) (summary', due', is') =
-    is ∙ (ap (λ found. Gives (output_of job found)) (one_trial job.start job.networks summary summary' due due') ∙ sym is')
+    is
+    ∙ (ap (λ found. Gives (output_of job found)) (one_trial job.start job.networks summary summary' due due')
+    ∙ sym is')
 
 gives_refuses : {output : Output} {why : Refusal} → Refuses why ≡ Gives output → ⊥
 gives_refuses e = cc

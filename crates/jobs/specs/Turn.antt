@@ -103,8 +103,8 @@ HasReadFault p t = (file : List ℕ)
     × IsReadFault p (given_of t) t.files.after file × Gains t.err (read_fault_line file) × t.out.Same
     × t.row.Same
 
--- a write failed: that sink gained a proper prefix of what was due, and the other is untouched; where that is the output,
--- the listeners were told its questions
+-- a write failed: that sink gained a proper prefix of what was due, and the other is untouched; where that is the
+-- output, the listeners were told its questions
 abbrev pub HasWriteFault : Program → Turn → Type 0
 HasWriteFault p t =
     ((output : Output) × IsGiven p (given_of t) (Gives output) × Breaks t.out output.bytes × t.err.Same

@@ -10,8 +10,8 @@ use Rattle.loading.specs.declared.refusal.Refusal.{Refusal}
 use Rattle.loading.specs.declared.refusal.Refusal.TheVariants.{NoFile, LongFile, BadZone, TooManyRecords, AliasAndOther}
 use Rattle.loading.specs.declared.refusal.Refusal.TheVariants.{NoVerdict, Alias, Taken, TooBig, BadList, Denied}
 
--- 1: what was asked is refused; 2: it is too big; 3: the zones or the list cannot be read; 8: the file does not show what
--- it should
+-- 1: what was asked is refused; 2: it is too big; 3: the zones or the list cannot be read; 8: the file does not show
+-- what it should
 abbrev pub refusal_status : Refusal → ℕ
 refusal_status (NoFile file) = 3
 refusal_status (LongFile file) = 3

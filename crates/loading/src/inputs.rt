@@ -88,8 +88,8 @@ fn read_zone<F: Files>(
     }
 }
 
-/// The contents of a file that is no zone, of which at most 8,388,609 bytes are taken. Refused are a name of no file, and
-/// a file of more than 8,388,608 bytes; `ReadFault` comes only where its calls failed.
+/// The contents of a file that is no zone, of which at most 8,388,609 bytes are taken. Refused are a name of no file,
+/// and a file of more than 8,388,608 bytes; `ReadFault` comes only where its calls failed.
 pub fn read_file<F: Files>(
     alloc: Global,
     files: &mut F,

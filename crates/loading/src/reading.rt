@@ -165,8 +165,8 @@ fn take_file<F: Files>(
 }
 
 /// The records of the master file of a zone (RFC 1035, section 5), of which at most 8,388,609 bytes are taken. Refused
-/// are a name of no file, a file of more than 8,388,608 bytes, and one that has no reading; `ReadFault` comes only where
-/// its calls failed.
+/// are a name of no file, a file of more than 8,388,608 bytes, and one that has no reading; `ReadFault` comes only
+/// where its calls failed.
 pub fn read_records<F: Files>(
     alloc: Global,
     files: &mut F,

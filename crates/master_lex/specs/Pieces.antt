@@ -1,5 +1,6 @@
 -- What a reader in pieces keeps, and the bytes that it stands for.
-use Rattle.std.specs.Prelude.{◌≡◌, ℕ, ◌+◌, ◌-◌, ◌<◌, ◌≤◌, ◌^◌, min, Bool, true, false, ◌&&◌, not, List, [], ◌∷◌, ◌++◌, map, filter, length, Option, Some, None, nat_lt, IsTrue, ⊤}
+use Rattle.std.specs.Prelude.{◌≡◌, ℕ, ◌+◌, ◌-◌, ◌<◌, ◌≤◌, ◌^◌, min, Bool, true, false, ◌&&◌, not, List, [], ◌∷◌, ◌++◌}
+use Rattle.std.specs.Prelude.{map, filter, length, Option, Some, None, nat_lt, IsTrue, ⊤}
 use Rattle.std.specs.List.{list_any, list_all}
 use Rattle.std.specs.Char.{is_ascii_digit}
 use Rattle.master_lex.specs.declared.entry.Token.{Token}
@@ -11,7 +12,8 @@ use Rattle.master_lex.specs.declared.part.Escape.{Escape}
 use Rattle.master_lex.specs.declared.part.Escape.TheVariants.{Unescaped, Slash, OneDigit, TwoDigits}
 use Rattle.master_lex.specs.declared.part.Part.{Part}
 use Rattle.master_lex.specs.declared.part.Part.TheVariants.{Outside, InComment, InToken}
-use Rattle.master_lex.specs.Items.{Glyph, glyphs_text, octet_of, is_plain_glyph, is_quoted_glyph, is_blank, is_feed, Item, plain, items_text, tokens_of, depth_after}
+use Rattle.master_lex.specs.Items.{Glyph, glyphs_text, octet_of, is_plain_glyph, is_quoted_glyph, is_blank, is_feed}
+use Rattle.master_lex.specs.Items.{Item, plain, items_text, tokens_of, depth_after}
 use Rattle.master_lex.specs.Entries.{AreEntries, has_token, lines_in}
 use Rattle.master_lex.specs.Broken.{IsBroken, IsDecided, ends_in_comment}
 

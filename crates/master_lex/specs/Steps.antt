@@ -1,6 +1,7 @@
 -- What a byte does to an open entry. The private functions answer it, and no public contract cites it: proofs/ shows
 -- that it is what the definitions say.
-use Rattle.std.specs.Prelude.{ℕ, zero, suc, ◌+◌, ◌-◌, ◌*◌, Bool, true, false, ◌&&◌, List, [], ◌∷◌, ◌++◌, ◌==◌, if◌then◌else◌, min, ◌^◌, Option, Some, None, Result, Ok, Err}
+use Rattle.std.specs.Prelude.{ℕ, zero, suc, ◌+◌, ◌-◌, ◌*◌, Bool, true, false, ◌&&◌, List, [], ◌∷◌, ◌++◌, ◌==◌}
+use Rattle.std.specs.Prelude.{if◌then◌else◌, min, ◌^◌, Option, Some, None, Result, Ok, Err}
 use Rattle.std.specs.Char.{is_ascii_digit}
 use Rattle.master_lex.specs.declared.entry.Octet.{Octet}
 use Rattle.master_lex.specs.declared.entry.Token.{Token}
@@ -13,7 +14,8 @@ use Rattle.master_lex.specs.declared.part.Step.{Step}
 use Rattle.master_lex.specs.declared.part.Step.TheVariants.{Goes, Closes, Fails}
 use Rattle.master_lex.specs.declared.entry.Entry.{Entry}
 use Rattle.master_lex.specs.Entries.{has_token}
-use Rattle.master_lex.specs.Items.{bare, marked, numbered, octet_of, is_escape, is_plain_glyph, is_quoted_glyph, is_blank, is_feed}
+use Rattle.master_lex.specs.Items.{bare, marked, numbered, octet_of, is_escape, is_plain_glyph, is_quoted_glyph}
+use Rattle.master_lex.specs.Items.{is_blank, is_feed}
 
 -- project's own form: the tokens with one more of these octets
 abbrev pub with_token : List Token → Bool → List Octet → List Token
@@ -47,7 +49,8 @@ value_of x y z = 100 * (x - 48) + 10 * (y - 48) + (z - 48)
 -- project's own form: what a byte does at this depth, behind these tokens, in this part of the entry
 abbrev pub step : ℕ → List Token → Part → ℕ → Step
 step d tokens Outside b =
-    if is_plain_glyph (bare b) then Goes d tokens (InToken false (octet_of (bare b) ∷ []) Unescaped) else at_mark d tokens b
+    if is_plain_glyph (bare b) then Goes d tokens (InToken false (octet_of (bare b) ∷ []) Unescaped)
+    else at_mark d tokens b
 step d tokens InComment b = if is_feed b then at_feed d tokens else Goes d tokens InComment
 step d tokens (InToken false units Unescaped) b =
     if is_plain_glyph (bare b) then Goes d tokens (InToken false (units ++ octet_of (bare b) ∷ []) Unescaped)
@@ -63,7 +66,8 @@ step d tokens (InToken quoted units (OneDigit x)) b =
     if is_ascii_digit b then Goes d tokens (InToken quoted units (TwoDigits x b)) else Fails BadEscape
 step d tokens (InToken quoted units (TwoDigits x y)) b =
     if is_ascii_digit b && is_escape (numbered (value_of x y b))
-    then Goes d tokens (InToken quoted (units ++ octet_of (numbered (value_of x y b)) ∷ []) Unescaped) else Fails BadEscape
+    then Goes d tokens (InToken quoted (units ++ octet_of (numbered (value_of x y b)) ∷ []) Unescaped)
+    else Fails BadEscape
 
 -- ---- numbers of lines, and entries with a token
 

@@ -1,6 +1,7 @@
 //! Entries out of bytes that come one by one.
 ghost use Rattle.master_lex.specs.Steps.{given_of, line_behind};
-ghost use Rattle.std.specs.Prelude.{◌≡◌, ℕ, ◌+◌, ◌<◌, ◌^◌, List, [], ◌∷◌, ◌++◌, length, IfOk, IfErr, IfSome, OnOk, option_to_list};
+ghost use Rattle.std.specs.Prelude.{◌≡◌, ℕ, ◌+◌, ◌<◌, ◌^◌, List, [], ◌∷◌, ◌++◌, length, IfOk, IfErr, IfSome, OnOk};
+ghost use Rattle.std.specs.Prelude.{option_to_list};
 
 use crate::entry::{Entry, Tokens};
 use crate::fault::LexFault;
@@ -27,7 +28,14 @@ impl Model for Cutter {
 
     ghost Value = { Kept };
 
-    ghost view = { λ a. record { line = a.line; here = a.here; lead = a.lead; depth = a.depth; tokens = a.tokens; part = a.part } };
+    ghost view = { λ a. record {
+      line = a.line;
+      here = a.here;
+      lead = a.lead;
+      depth = a.depth;
+      tokens = a.tokens;
+      part = a.part;
+    } };
 }
 
 /// The entry, if it has a token.
@@ -58,7 +66,8 @@ fn line_behind(line: u64, byte: u8) -> u64
 impl Cutter {
     ghost use Rattle.master_lex.specs.declared.entry.Entry.{Entry};
     ghost use Rattle.master_lex.specs.declared.fault.LexKind.{LexKind};
-    ghost use Rattle.master_lex.specs.Pieces.{StandsFor, IsBrokenAt, IsDecidedAt, Closes, EndsWith, AreAll, FaultIs, Kept};
+    ghost use Rattle.master_lex.specs.Pieces.{StandsFor, IsBrokenAt, IsDecidedAt, Closes, EndsWith, AreAll, FaultIs};
+    ghost use Rattle.master_lex.specs.Pieces.{Kept};
     ghost use Rattle.master_lex.specs.declared.part.Part.TheVariants.{Outside};
 
     /// A cutter of no bytes, at line 1. It keeps the allocator and takes no memory.
@@ -70,7 +79,8 @@ impl Cutter {
 
     /// A cutter of no bytes, at the line.
     pub(crate) fn from_line(alloc: Global, line: u64) -> Cutter
-        ensures fresh { result ≡ record { line = line; here = line; lead = None; depth = 0; tokens = []; part = Outside } }
+        ensures fresh { result
+            ≡ record { line = line; here = line; lead = None; depth = 0; tokens = []; part = Outside } }
         ensures none { 0 < line → StandsFor line result [] [] }
     {
         Cutter {

@@ -28,7 +28,8 @@ first_included (terms ∷ lists) behind a = if is_pass (first terms a) then Pass
 -- the verdict of the zone with so many networks: softfail where no included record gives pass
 abbrev pub trial_verdict : (start networks : ℕ) → Address → Verdict
 trial_verdict start networks a =
-    first_included (map (terms_in start networks) (range_with_len 0 8)) (record { verdict = SoftFail; net = All } ∷ []) a
+    first_included (map (terms_in start networks) (range_with_len 0 8))
+    (record { verdict = SoftFail; net = All } ∷ []) a
 
 -- RFC 7208, section 4: the zone of up to 10,000 networks, over which check_host gives each address this verdict, under
 -- the limits of a mail receiver

@@ -1,4 +1,5 @@
-//! Laws of published fragments: what is due for the policy of a domain is certified. They speak of no file, sink or job.
+//! Laws of published fragments: what is due for the policy of a domain is certified. They speak of no file, sink or
+//! job.
 #![tactic(auto)]
 
 mod laws;

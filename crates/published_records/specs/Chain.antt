@@ -1,5 +1,6 @@
 -- The records of a chain as SPF records: what their texts spell, and where their redirects lead.
-use Rattle.std.specs.Prelude.{◌≡◌, ℕ, ◌+◌, ◌≤◌, Bool, true, false, IsTrue, List, [], ◌∷◌, length, map, filter_map, Ok, Option, Some, None}
+use Rattle.std.specs.Prelude.{◌≡◌, ℕ, ◌+◌, ◌≤◌, Bool, true, false, IsTrue, List, [], ◌∷◌, length, map, filter_map, Ok}
+use Rattle.std.specs.Prelude.{Option, Some, None}
 use Rattle.addr_bits.specs.declared.address.Family.{Family}
 use Rattle.dns_name.specs.Name.{name_of_text}
 use Rattle.master_reader.specs.declared.record.Body.{Body}

@@ -1,6 +1,7 @@
 -- Where records stand: alone as a zone, and in zones that were read.
 use Rattle.addr_bits.specs.declared.address.Address.{Address}
-use Rattle.std.specs.Prelude.{◌≡◌, ℕ, ◌<◌, ◌≤◌, ◌&&◌, Bool, false, not, IsFalse, List, [], ◌++◌, length, map, filter, Option, Some, None, is_some, if◌then◌else◌}
+use Rattle.std.specs.Prelude.{◌≡◌, ℕ, ◌<◌, ◌≤◌, ◌&&◌, Bool, false, not, IsFalse, List, [], ◌++◌, length, map, filter}
+use Rattle.std.specs.Prelude.{Option, Some, None, is_some, if◌then◌else◌}
 use Rattle.master_reader.specs.declared.record.Record.{Record}
 use Rattle.zone_answers.specs.Answers.{zone_of, is_cut_off}
 use Rattle.zone_answers.specs.Lend.{AreLendable, IsLent, with_zone}

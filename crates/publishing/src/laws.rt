@@ -15,8 +15,8 @@ pub fn due_is_best()
 {}
 
 /// For legal settings, where one of the zones holds the domain, below no delegation, a fragment that is due is a
-/// shortest one: its list gives each address its verdict, no list that does has fewer terms, and its records stand where
-/// they are published.
+/// shortest one: its list gives each address its verdict, no list that does has fewer terms, and its records stand
+/// where they are published.
 pub fn due_is_shortest()
     ensures { DueIsShortest }
 {}

@@ -20,13 +20,13 @@ use zone_answers::{Questions, Zones};
 pub struct Publication {
     /// The fragment.
     pub bytes: Bytes,
-    /// Each question that check_host asks for some address, once, by the bytes of the printed name and then by A, AAAA, MX,
-    /// TXT.
+    /// Each question that check_host asks for some address, once, by the bytes of the printed name and then by A, AAAA,
+    /// MX, TXT.
     pub asked: Questions,
 }
 
-/// The fragment for the domain over these zones, which are read under these limits, and the questions on which its verdicts
-/// rest. Refused is first the least address
+/// The fragment for the domain over these zones, which are read under these limits, and the questions on which its
+/// verdicts rest. Refused is first the least address
 /// to which check_host gives no verdict (RFC 7208, section 4), and then what `publish` refuses.
 pub fn publish_policy(
     alloc: Global,

@@ -1,5 +1,6 @@
 -- The records of a redirect chain, and which fit below the size (RFC 7208, section 3.4, for the size).
-use Rattle.std.specs.Prelude.{◌≡◌, ⊤, ℕ, ◌+◌, ◌-◌, ◌<◌, ◌≤◌, ◌==◌, Bool, true, false, List, [], ◌∷◌, ◌++◌, length, take, drop, flat_map, decimal, codes, if◌then◌else◌}
+use Rattle.std.specs.Prelude.{◌≡◌, ⊤, ℕ, ◌+◌, ◌-◌, ◌<◌, ◌≤◌, ◌==◌, Bool, true, false, List, [], ◌∷◌, ◌++◌, length, take}
+use Rattle.std.specs.Prelude.{drop, flat_map, decimal, codes, if◌then◌else◌}
 use Rattle.spf_grammar.specs.declared.flat.FlatTerm.{FlatTerm}
 use Rattle.spf_grammar.specs.Written.{written_flat}
 
@@ -31,7 +32,8 @@ piece list from to = take (to - from) (drop from list)
 -- what a record takes of the size: its name, its text, and for record 0 the other texts at the domain
 abbrev pub record_size : (domain label : List ℕ) → (others : ℕ) → List FlatTerm → (k : ℕ) → (last : Bool) → ℕ
 record_size domain label others terms k last =
-    length (record_name domain label k) + length (record_text domain label terms k last) + (if k == 0 then others else 0)
+    length (record_name domain label k) + length (record_text domain label terms k last)
+    + (if k == 0 then others else 0)
 
 -- project's own choice, after the guideline of RFC 7208, section 3.4: a record fits where it takes less than the size
 abbrev pub Fits : (domain label : List ℕ) → (size others : ℕ) → List FlatTerm → (k : ℕ) → (last : Bool) → Type 0
@@ -60,7 +62,8 @@ abbrev pub RecordsFit : (domain label : List ℕ) → (size others : ℕ) → Li
 RecordsFit domain label size others list k from [] = ⊤
 RecordsFit domain label size others list k from (to ∷ []) = Fits domain label size others (piece list from to) k true
 RecordsFit domain label size others list k from (to ∷ next ∷ ends) =
-    Fits domain label size others (piece list from to) k false × RecordsFit domain label size others list (k + 1) to (next ∷ ends)
+    Fits domain label size others (piece list from to) k false
+    × RecordsFit domain label size others list (k + 1) to (next ∷ ends)
 
 -- a cut of the list whose records all fit
 pub record IsFittingCut (domain label : List ℕ) (size others : ℕ) (list : List FlatTerm) (ends : List ℕ) : Type 0 where

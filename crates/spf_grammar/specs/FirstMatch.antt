@@ -1,5 +1,6 @@
 -- First-match lists (RFC 7208, sections 4.6.2 and 4.7), seen from one family of addresses: the project's own form.
-use Rattle.std.specs.Prelude.{ℕ, ◌+◌, ◌-◌, ◌/◌, ◌^◌, ◌==◌, nat_lt, nat_le, Bool, true, false, ◌&&◌, if◌then◌else◌, List, [], ◌∷◌}
+use Rattle.std.specs.Prelude.{ℕ, ◌+◌, ◌-◌, ◌/◌, ◌^◌, ◌==◌, nat_lt, nat_le, Bool, true, false, ◌&&◌, if◌then◌else◌, List}
+use Rattle.std.specs.Prelude.{[], ◌∷◌}
 use Rattle.spf_grammar.specs.declared.verdict.Verdict.{Verdict}
 use Rattle.spf_grammar.specs.declared.verdict.Verdict.TheVariants.{Neutral}
 
@@ -45,4 +46,5 @@ inherited (t ∷ ts) k n = if is_above t.reach k n then t.verdict else inherited
 -- how many terms before the first one above the prefix are the prefix or lie below it
 abbrev pub spent : List Rule → (k n : ℕ) → ℕ
 spent [] k n = 0
-spent (t ∷ ts) k n = if is_above t.reach k n then 0 else (if is_within t.reach k n then 1 + spent ts k n else spent ts k n)
+spent (t ∷ ts) k n =
+    if is_above t.reach k n then 0 else (if is_within t.reach k n then 1 + spent ts k n else spent ts k n)

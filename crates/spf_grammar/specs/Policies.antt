@@ -17,7 +17,8 @@ written_target (Some spec) = 58 ∷ written spec
 
 -- RFC 7208, section 12: a domain-spec and two lengths, of which those of 32 and 128 bits are not written
 abbrev pub written_hosts : Option (List Piece) → ℕ → ℕ → List ℕ
-written_hosts spec len4 len6 = written_target spec ++ (written_len (codes "/") 32 len4 ++ written_len (codes "//") 128 len6)
+written_hosts spec len4 len6 =
+    written_target spec ++ (written_len (codes "/") 32 len4 ++ written_len (codes "//") 128 len6)
 
 -- RFC 7208, section 12: names are written in lower case
 abbrev pub written_mechanism : Mechanism → List ℕ

@@ -1,5 +1,6 @@
 -- What readers of SPF records answer, in the project's own form, over the productions of RFC 7208, section 12.
-use Rattle.std.specs.Prelude.{◌≡◌, ◌≢◌, ℕ, ◌≤◌, Bool, true, false, not, ◌&&◌, ◌||◌, ◌==◌, IsTrue, ◌⊎◌, List, [], ◌∷◌, ◌++◌, decimal, codes, Option, Some, None}
+use Rattle.std.specs.Prelude.{◌≡◌, ◌≢◌, ℕ, ◌≤◌, Bool, true, false, not, ◌&&◌, ◌||◌, ◌==◌, IsTrue, ◌⊎◌, List, [], ◌∷◌}
+use Rattle.std.specs.Prelude.{◌++◌, decimal, codes, Option, Some, None}
 use Rattle.std.specs.List.{list_all, list_any}
 use Rattle.std.specs.Char.{is_ascii_digit}
 use Rattle.addr_bits.specs.declared.address.Family.TheVariants.{V4, V6}
@@ -14,7 +15,8 @@ use Rattle.spf_grammar.specs.declared.policy.Mechanism.{Mechanism}
 use Rattle.spf_grammar.specs.declared.policy.Mechanism.TheVariants.{All, Include, A, Mx, Ptr, Ip4, Ip6, Exists}
 use Rattle.spf_grammar.specs.declared.policy.Term.{Term}
 use Rattle.spf_grammar.specs.declared.policy.Term.TheVariants.{Directive, Redirect, Exp, Unknown}
-use Rattle.spf_grammar.specs.Grammar.{SaysWord, SpellsLen, SpellsTarget, SpellsHosts, SpellsNetwork, SpellsQualifier, is_name, is_space}
+use Rattle.spf_grammar.specs.Grammar.{SaysWord, SpellsLen, SpellsTarget, SpellsHosts, SpellsNetwork, SpellsQualifier}
+use Rattle.spf_grammar.specs.Grammar.{is_name, is_space}
 
 -- ---- lengths
 
@@ -141,7 +143,8 @@ SpellsModifier name value (Directive verdict mechanism) = ⊥
 SpellsModifier name value (Redirect spec) = SaysWord name (codes "redirect") × SpellsDomainSpec false value spec
 SpellsModifier name value (Exp spec) = SaysWord name (codes "exp") × SpellsDomainSpec true value spec
 SpellsModifier name value (Unknown lower pieces) =
-    IsTrue (is_name name) × SaysWord name lower × (lower ≢ codes "redirect") × (lower ≢ codes "exp") × SpellsMacroText value pieces
+    IsTrue (is_name name) × SaysWord name lower × (lower ≢ codes "redirect") × (lower ≢ codes "exp")
+    × SpellsMacroText value pieces
 
 -- RFC 7208, section 4.6.1: a directive of this qualifier and name
 abbrev pub SpellsDirective : List ℕ → List ℕ → List ℕ → Term → Type 0

@@ -1,7 +1,8 @@
 //! The written form of a flat term.
 ghost use Rattle.std.specs.Prelude.{◌≡◌, ◌++◌, ◌+◌, ◌≤◌, codes, length};
 ghost use Rattle.arrayvec.specs.ArrayString.{array_string_len};
-ghost use Rattle.spf_grammar.specs.Written.{written_qualifier, written_len, network_word, written_network, written_net, written_flat as flat_text};
+ghost use Rattle.spf_grammar.specs.Written.{written_qualifier, written_len, network_word, written_network, written_net};
+ghost use Rattle.spf_grammar.specs.Written.{written_flat as flat_text};
 
 use crate::{FlatTerm, Net, Verdict};
 use addr_bits::{AddressFamily, Family, Prefix};

@@ -1,5 +1,6 @@
 -- What a macro text expands to (RFC 7208, sections 7.2 to 7.4).
-use Rattle.std.specs.Prelude.{◌≡◌, Option, Some, None, ℕ, ◌+◌, ◌-◌, ◌/◌, ◌%◌, Bool, ◌||◌, ◌==◌, nat_lt, nat_le, List, [], ◌∷◌, ◌++◌, length, drop, reverse, flat_map, codes, if◌then◌else◌}
+use Rattle.std.specs.Prelude.{◌≡◌, Option, Some, None, ℕ, ◌+◌, ◌-◌, ◌/◌, ◌%◌, Bool, ◌||◌, ◌==◌, nat_lt, nat_le, List}
+use Rattle.std.specs.Prelude.{[], ◌∷◌, ◌++◌, length, drop, reverse, flat_map, codes, if◌then◌else◌}
 use Rattle.std.specs.List.{list_any, slice_split, join_with_byte}
 use Rattle.std.specs.Char.{is_ascii_alphabetic, is_ascii_digit}
 use Rattle.addr_bits.specs.declared.address.Family.{Family}
@@ -52,7 +53,8 @@ kept keep parts = if keep == 0 then parts else drop (length parts - keep) parts
 -- the value split, reversed, cut to its right-hand parts, and joined by dots (RFC 7208, section 7.3)
 abbrev pub transformed : Macro → List ℕ → List ℕ
 transformed m value =
-    let parts = slice_split (splits_at m) value in join_with_byte 46 (kept m.keep (if m.reverse then reverse parts else parts))
+    let parts = slice_split (splits_at m) value in
+    join_with_byte 46 (kept m.keep (if m.reverse then reverse parts else parts))
 
 -- a digit from 0 to 15 in upper case
 abbrev pub hex_upper : ℕ → ℕ
@@ -90,7 +92,8 @@ followed_by (Out front) (Out rest) = Out (front ++ rest)
 -- the expansion of a macro text, or the need of the first macro that needs more than the family and the domain
 abbrev pub expansion : Family → List ℕ → List Piece → Expanded
 expansion family domain [] = Out []
-expansion family domain (piece ∷ pieces) = followed_by (expanded_piece family domain piece) (expansion family domain pieces)
+expansion family domain (piece ∷ pieces) =
+    followed_by (expanded_piece family domain piece) (expansion family domain pieces)
 
 -- what stands after each dot of the text, the longest first
 abbrev pub after_dots : List ℕ → List (List ℕ)

@@ -1,5 +1,7 @@
 -- Macro texts by the productions of RFC 7208, section 7.1, between texts and lists of pieces.
-use Rattle.std.specs.Prelude.{◌≡◌, ℕ, ◌-◌, ◌/◌, ◌%◌, ◌^◌, ◌<◌, min, Bool, true, false, not, ◌&&◌, ◌||◌, ◌==◌, nat_le, IsTrue, ◌⊎◌, List, [], ◌∷◌, ◌++◌, length, map, filter, flat_map, sum_by, slice_index, decimal, codes, if◌then◌else◌}
+use Rattle.std.specs.Prelude.{◌≡◌, ℕ, ◌-◌, ◌/◌, ◌%◌, ◌^◌, ◌<◌, min, Bool, true, false, not, ◌&&◌, ◌||◌, ◌==◌, nat_le}
+use Rattle.std.specs.Prelude.{IsTrue, ◌⊎◌, List, [], ◌∷◌, ◌++◌, length, map, filter, flat_map, sum_by, slice_index}
+use Rattle.std.specs.Prelude.{decimal, codes, if◌then◌else◌}
 use Rattle.std.specs.List.{list_all, list_any, enumerate_from}
 use Rattle.std.specs.Char.{is_ascii_alphabetic, is_ascii_digit}
 use Rattle.std.specs.Str.Parse.{AllDigits, digits_value}
@@ -93,7 +95,8 @@ is_let_dig_hyp b = is_ascii_alphabetic b || is_ascii_digit b || b == 45
 
 -- toplabel (RFC 7208, section 7.1): letters, digits and hyphens, the first and the last no hyphen, and not digits alone
 abbrev pub is_toplabel : List ℕ → Bool
-is_toplabel text = list_all is_let_dig_hyp text && not (slice_index text 0 == 45) && not (slice_index text (length text - 1) == 45)
+is_toplabel text =
+    list_all is_let_dig_hyp text && not (slice_index text 0 == 45) && not (slice_index text (length text - 1) == 45)
     && list_any (λ b. is_ascii_alphabetic b || b == 45) text
 
 -- a macro-expand, and no macro-literal (RFC 7208, section 7.1)

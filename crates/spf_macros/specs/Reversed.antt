@@ -31,4 +31,5 @@ undotted (Needs n) = Needs n
 -- RFC 7208, sections 7.2 and 7.3: what the pieces behind the reversed address and the dot expand to, without one final
 -- dot, or their first need
 abbrev pub reverse_suffix : Family → List ℕ → List Piece → Option Expanded
-reverse_suffix family domain pieces = option_map (λ rest. undotted (expansion family domain rest)) (behind_reversed pieces)
+reverse_suffix family domain pieces =
+    option_map (λ rest. undotted (expansion family domain rest)) (behind_reversed pieces)

@@ -33,9 +33,9 @@ fn behind_reversed(pieces: &[Piece]) -> Option<&[Piece]>
 
 /// The suffix of a macro text that begins with the reversed address and a dot, as `%{ir}.list.example.com` does: what
 /// the pieces behind these expand to, without one final dot, or what the first macro among them needs that needs more
-/// than the family and the domain. `None` exactly where the text does not begin so: the macro is the letter `i` in lower
-/// case with `r`, no number and no delimiter. The letters c, r and t must not be there: `are_for_all` tests it. It is
-/// not shortened. `AllocError` where there is no memory.
+/// than the family and the domain. `None` exactly where the text does not begin so: the macro is the letter `i` in
+/// lower case with `r`, no number and no delimiter. The letters c, r and t must not be there: `are_for_all` tests it.
+/// It is not shortened. `AllocError` where there is no memory.
 pub fn reverse_suffix(
     alloc: Global,
     pieces: &MacroText,

@@ -237,9 +237,9 @@ gather_mx site t spec counts go =
     naming site t spec counts (λ name.
     ask site t counts (question_of kind.Mx name) (λ found. gather_exchanges site t found counts go))
 
--- RFC 7208, sections 5.7 and 7.3: the name below which an `exists` asks whose text begins with the reversed address and a
--- dot. What the rest needs is left open, and so is, by the project's own choice, one of more than 189 characters, which
--- behind the 63 of a reversed IPv6 address and a dot would have more than 253, and one that is no name
+-- RFC 7208, sections 5.7 and 7.3: the name below which an `exists` asks whose text begins with the reversed address and
+-- a dot. What the rest needs is left open, and so is, by the project's own choice, one of more than 189 characters,
+-- which behind the 63 of a reversed IPv6 address and a dot would have more than 253, and one that is no name
 abbrev pub naming_suffix : Site → ℕ → Expanded → Counts → (Labels → Run) → Run
 naming_suffix site t suffix counts go =
     with_text site t counts suffix (λ text.
@@ -252,8 +252,8 @@ gather_exists site t spec None counts go =
     gather_target site t kind.A (Some spec) counts (λ gathered. go (Common gathered))
 gather_exists site t spec (Some suffix) counts go = naming_suffix site t suffix counts (λ name. go (Reversed name))
 
--- RFC 7208, section 5: what a mechanism gathers for every address of the family alike. `a` and `mx` ask for addresses of
--- the family (sections 5.3 and 5.4), and `exists` for those of IPv4 (section 5.7); no other mechanism asks for hosts
+-- RFC 7208, section 5: what a mechanism gathers for every address of the family alike. `a` and `mx` ask for addresses
+-- of the family (sections 5.3 and 5.4), and `exists` for those of IPv4 (section 5.7); no other mechanism asks for hosts
 abbrev pub gather_common : Site → ℕ → Mechanism → Counts → (Hosts → Run) → Run
 gather_common site t (A spec len4 len6) counts go =
     gather_target site t (kind_in site.family) spec counts (λ gathered. go (Common gathered))

@@ -44,5 +44,6 @@ Settles {A} zones part asked more (Err (Ended outcome)) = Stops zones more part 
 Settles {A} zones part asked more (Err Memory) = Unit {0}
 
 -- the same for every address
-abbrev pub SettlesEach : {A : Type 0} → AnsweringEach → PartOf A → List Question → List Question → Result A Halt → Type 0
+abbrev pub SettlesEach :
+    {A : Type 0} → AnsweringEach → PartOf A → List Question → List Question → Result A Halt → Type 0
 SettlesEach zones part asked more result = (a : Address) → Settles (zones a) part asked more result

@@ -6,7 +6,8 @@ ghost use Rattle.spf_model.specs.Judging as judging;
 ghost use Rattle.spf_model.specs.Check as checking;
 ghost use Rattle.dns_name.specs.Name.{name_of_text};
 ghost use Rattle.spf_model.specs.Result.{AreModest, Gives};
-ghost use Rattle.spf_model.specs.Leads.{site_of, required_of, IsJudged, IsTried, IsVerdictOf, TargetFits, MechanismFits, TermFits, TermsFit};
+ghost use Rattle.spf_model.specs.Leads.{site_of, required_of, IsJudged, IsTried, IsVerdictOf, TargetFits};
+ghost use Rattle.spf_model.specs.Leads.{MechanismFits, TermFits, TermsFit};
 
 use crate::context::{RecordContext, name_of};
 use crate::frame::Frame;

@@ -91,8 +91,8 @@ impl Frame<'_> {
         }
     }
 
-    /// What is gathered for the address, of whose reversed name only the class of the answer is heard (RFC 7208, section
-    /// 5.7).
+    /// What is gathered for the address, of whose reversed name only the class of the answer is heard (RFC 7208,
+    /// section 5.7).
     fn gather_own(&self, term: u32, hosts: Hosts) -> Result<Gathered, Halt>
         requires family { self.now.context.family ≡ family_of self.now.address }
         requires short { IsShort hosts }
@@ -144,7 +144,8 @@ impl Frame<'_> {
 
     /// `ptr` counts a lookup, and is left open (RFC 7208, section 5.5).
     pub(crate) fn match_ptr(&self, term: u32, counts: &mut Counts) -> Result<bool, Halt>
-        ensures judged { (sub : judging.Sub) (spec : Option (List Piece)) → IsJudged (says self.now.context.zones.now self.now.address)
+        ensures judged { (sub : judging.Sub) (spec : Option (List Piece))
+            → IsJudged (says self.now.context.zones.now self.now.address)
             (judging.judge (site_of self.now.context) self.now.address sub term
             (mechanism.Ptr spec) counts.old) counts.new result }
         ensures grows { counts.old.lookups ≤ counts.new.lookups }

@@ -21,8 +21,8 @@ use spf_macros::{Expanded, MacroText, reverse_suffix};
 use std::alloc::{AllocError, Global};
 use zone_answers::{Answer, QKind, Questions};
 
-/// The most characters of the text below which reversed names are asked for: behind the 63 characters of a reversed IPv6
-/// address and a dot, no name has more (RFC 1035, section 2.3.4, and RFC 3596, section 2.5).
+/// The most characters of the text below which reversed names are asked for: behind the 63 characters of a reversed
+/// IPv6 address and a dot, no name has more (RFC 1035, section 2.3.4, and RFC 3596, section 2.5).
 const MAX_SUFFIX_TEXT: usize = 189;
 
 /// The exchange of an MX record, unless that is the root (RFC 7505, section 3).

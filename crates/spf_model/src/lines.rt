@@ -1,6 +1,7 @@
 //! The words of an outcome.
 ghost use Rattle.std.specs.Prelude.{◌≡◌, ◌++◌, IfOk, OnOk};
-ghost use Rattle.spf_model.specs.Lines.{verdict_word as word_of_verdict, cause_word as word_of_cause, cause_words, cause_text, outcome_words};
+ghost use Rattle.spf_model.specs.Lines.{verdict_word as word_of_verdict, cause_word as word_of_cause, cause_words};
+ghost use Rattle.spf_model.specs.Lines.{cause_text, outcome_words};
 
 use crate::{Cause, Outcome, Place};
 use addr_bits::Bytes;

@@ -1,5 +1,6 @@
 -- What is seen of listeners from outside, and how questions change it: the project's own form.
-use Rattle.std.specs.Prelude.{ℕ, ◌+◌, ◌-◌, ◌^◌, ◌<◌, ◌≤◌, ◌≡◌, ◌⊎◌, List, [], ◌∷◌, ◌++◌, length, min, Some, None, ⊤, codes}
+use Rattle.std.specs.Prelude.{ℕ, ◌+◌, ◌-◌, ◌^◌, ◌<◌, ◌≤◌, ◌≡◌, ◌⊎◌, List, [], ◌∷◌, ◌++◌, length, min, Some, None, ⊤}
+use Rattle.std.specs.Prelude.{codes}
 use Rattle.std.specs.declared.option.Option.{Option}
 use Rattle.zone_answers.specs.Questions.{question_text}
 use Rattle.zone_answers.specs.declared.answer.Question.{Question}

@@ -20,8 +20,8 @@ pub trait Auditor: Drop {
     /// where it tells them.
     ghost hears: { Self → AuditorSeen };
 
-    /// Tells it a question. `Done` comes exactly where its count comes to the stop that it tells, if it tells one. After
-    /// `AllocError` all that is seen is as it was.
+    /// Tells it a question. `Done` comes exactly where its count comes to the stop that it tells, if it tells one.
+    /// After `AllocError` all that is seen is as it was.
     fn tell(&mut self, question: &Question) -> Result<Keep, AllocError>
         ensures heard { IfOk result (HasHeard (hears self.old) question.now (hears self.new)) }
         ensures unheard { OnErr result (hears self.new ≡ hears self.old) };

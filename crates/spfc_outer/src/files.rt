@@ -1,5 +1,6 @@
 //! Files that are chosen by name and read in pieces.
-ghost use Rattle.std.specs.Prelude.{◌≡◌, ◌<◌, ◌++◌, [], List, ℕ, Bool, Some, None, length, take, IsTrue, false, IsErrOf, IfOk, OnOk, OnErr};
+ghost use Rattle.std.specs.Prelude.{◌≡◌, ◌<◌, ◌++◌, [], List, ℕ, Bool, Some, None, length, take, IsTrue, false};
+ghost use Rattle.std.specs.Prelude.{IsErrOf, IfOk, OnOk, OnErr};
 ghost use Rattle.std.specs.Io.{ReadsAtMost};
 ghost use Rattle.spfc_outer.specs.declared.files.OpenFault.TheVariants.{Failed as CountedFault, Memory};
 ghost use Rattle.spfc_outer.specs.Causes.{HasCause, HasOpenCause};

@@ -62,7 +62,8 @@ impl<S: Sink + Drop> Auditor for LineAuditor<S> {
 /// Writes the line of the question.
 fn write_line<S: Sink>(sink: &mut S, question: &Question) -> Result<(), Failed>
     ensures whole { OnOk result (Appends (S.seen sink.old).bytes (S.seen sink.new).bytes (asked_line question.now)) }
-    ensures part { OnErr result (AppendsPart (S.seen sink.old).bytes (S.seen sink.new).bytes (asked_line question.now)) }
+    ensures part { OnErr result
+        (AppendsPart (S.seen sink.old).bytes (S.seen sink.new).bytes (asked_line question.now)) }
     ensures cause { HasCause (S.seen sink.old).faults (S.seen sink.new).faults result }
 {
     let mut line: ArrayVec<u8, 1036> = ArrayVec::new();

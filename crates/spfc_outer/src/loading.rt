@@ -1,5 +1,6 @@
 //! Reads a file whole, up to a limit.
-ghost use Rattle.std.specs.Prelude.{◌≡◌, ◌-◌, ◌<◌, ◌≤◌, ◌++◌, [], Some, true, false, length, take, IsTrue, IsErrOf, IfOk, OnOk};
+ghost use Rattle.std.specs.Prelude.{◌≡◌, ◌-◌, ◌<◌, ◌≤◌, ◌++◌, [], Some, true, false, length, take, IsTrue, IsErrOf};
+ghost use Rattle.std.specs.Prelude.{IfOk, OnOk};
 ghost use Rattle.spfc_outer.specs.Causes.{HasOpenCause};
 ghost use Rattle.spfc_outer.specs.Moved.{IsLoaded, Takes, TakesAtMost};
 ghost use Rattle.spfc_outer.specs.Seen.{Keeps, FailsAt};
@@ -8,7 +9,8 @@ use crate::{Files, OpenFault, Opened};
 use addr_bits::Bytes;
 use std::alloc::Global;
 
-/// Chooses the file of this name and reads it, at most `most` bytes of it, however it ends. `None` where there is no such file.
+/// Chooses the file of this name and reads it, at most `most` bytes of it, however it ends. `None` where there is no
+/// such file.
 pub fn load<F: Files>(
     alloc: Global,
     files: &mut F,

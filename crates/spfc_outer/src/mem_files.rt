@@ -91,7 +91,8 @@ impl MemFiles {
 }
 
 impl Files for MemFiles {
-    ghost use Rattle.std.specs.Prelude.{◌≡◌, ◌<◌, ◌++◌, ◌↔◌, true, Some, None, length, take, min, IsTrue, IsErrOf, IfOk, OnOk, OnErr};
+    ghost use Rattle.std.specs.Prelude.{◌≡◌, ◌<◌, ◌++◌, ◌↔◌, true, Some, None, length, take, min, IsTrue, IsErrOf};
+    ghost use Rattle.std.specs.Prelude.{IfOk, OnOk, OnErr};
     ghost use Rattle.std.specs.Io.{ReadsAtMost};
     ghost use Rattle.spfc_outer.specs.Causes.{HasCause, HasOpenCause};
     ghost use Rattle.spfc_outer.specs.Held.{look_up, name_at};

@@ -15,8 +15,8 @@ pub struct TightAuditor {
 impl TightAuditor {
     ghost use Rattle.spfc_outer.specs.KeepAuditor.{new_seen, refused_at, tight_seen};
 
-    /// A listener that heard nothing, is done as its count comes to the limit, if there is one, and refuses each question
-    /// while its count is `refuse`. It takes no memory.
+    /// A listener that heard nothing, is done as its count comes to the limit, if there is one, and refuses each
+    /// question while its count is `refuse`. It takes no memory.
     pub fn new(alloc: Global, limit: Option<u64>, refuse: u64) -> TightAuditor
         ensures seen { tight_seen result ≡ new_seen limit }
         ensures refuses { refused_at result ≡ refuse }

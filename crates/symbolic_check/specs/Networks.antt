@@ -40,7 +40,8 @@ with_first (Unknown name value) a behind = behind
 -- the verdict of the first of these directives whose network covers the address
 abbrev pub first_network : List Term → Address → Option Verdict
 first_network [] a = None
-first_network (Directive verdict mechanism ∷ terms) a = if network_covers mechanism a then Some verdict else first_network terms a
+first_network (Directive verdict mechanism ∷ terms) a =
+    if network_covers mechanism a then Some verdict else first_network terms a
 first_network (Redirect spec ∷ terms) a = first_network terms a
 first_network (Exp spec ∷ terms) a = first_network terms a
 first_network (Unknown name value ∷ terms) a = first_network terms a

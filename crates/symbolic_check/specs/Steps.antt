@@ -26,7 +26,9 @@ is_live (Failed outcome) = false
 -- RFC 7208, section 4.6.4: a term that asks the DNS counts one lookup, which must be within the limit
 abbrev pub after_lookup : Limits → Place → State → State
 after_lookup limits place (Live counts) =
-    if nat_le (counts.lookups + 1) limits.lookups then Live (record counts { lookups = counts.lookups + 1 }) else Failed (Perm cause.Lookups place)
+    if nat_le (counts.lookups + 1) limits.lookups
+    then Live (record counts { lookups = counts.lookups + 1 })
+    else Failed (Perm cause.Lookups place)
 after_lookup limits place (Decided verdict counts) = Decided verdict counts
 after_lookup limits place (Failed outcome) = Failed outcome
 
@@ -34,7 +36,9 @@ after_lookup limits place (Failed outcome) = Failed outcome
 abbrev pub after_void : Limits → Place → Bool → State → State
 after_void limits place false state = state
 after_void limits place true (Live counts) =
-    if nat_le (counts.voids + 1) limits.voids then Live (record counts { voids = counts.voids + 1 }) else Failed (Perm cause.Voids place)
+    if nat_le (counts.voids + 1) limits.voids
+    then Live (record counts { voids = counts.voids + 1 })
+    else Failed (Perm cause.Voids place)
 after_void limits place true (Decided verdict counts) = Decided verdict counts
 after_void limits place true (Failed outcome) = Failed outcome
 

@@ -10,7 +10,8 @@ use Rattle.spf_model.specs.declared.outcome.Outcome.TheVariants.{Is}
 use Rattle.spf_model.specs.declared.context.RecordContext.{RecordContext}
 use Rattle.spf_model.specs.declared.gathered.Hosts.{Hosts}
 use Rattle.spf_model.specs.Run.{Run, Ends}
-use Rattle.spf_model.specs.Judging.{Judge, gather_own, judge, judge_gathered, judge_hosts, naming_target, is_pass, with_verdict}
+use Rattle.spf_model.specs.Judging.{Judge, gather_own, judge, judge_gathered, judge_hosts, naming_target, is_pass}
+use Rattle.spf_model.specs.Judging.{with_verdict}
 use Rattle.spf_model.specs.Leads.{site_of}
 use Rattle.spf_model.specs.Check.{check, trying, tried, term_after, default, unless_matched}
 use Rattle.symbolic_check.specs.declared.state.Purpose.{Purpose}
@@ -42,7 +43,8 @@ terms_stretch address context depth t terms a counts go = tried (judges context 
 
 -- what comes where no directive matches, which goes on nowhere
 abbrev pub default_stretch : (ℕ → Address) → RecordContext → ℕ → Option (ℕ × List Piece) → ℕ → Stretch
-default_stretch address context depth redirect a counts go = default (site_of context) (check context.limits (address a) depth) counts redirect
+default_stretch address context depth redirect a counts go =
+    default (site_of context) (check context.limits (address a) depth) counts redirect
 
 -- the number of the term so far behind this one
 abbrev pub number_after : ℕ → ℕ → ℕ
@@ -51,7 +53,8 @@ number_after t (suc n) = number_after (term_after t) n
 
 -- the record of the context's domain, which goes on nowhere
 abbrev pub record_stretch : (ℕ → Address) → RecordContext → ℕ → ℕ → Stretch
-record_stretch address context depth a counts go = check context.limits (address a) depth context.domain.now context.name.now counts
+record_stretch address context depth a counts go =
+    check context.limits (address a) depth context.domain.now context.name.now counts
 
 -- RFC 7208, sections 5.2 and 6.1: what a term makes of the verdict of the record that it asks for
 abbrev pub goes_on : Purpose → (Counts → Run) → Verdict → Counts → Run
@@ -61,7 +64,8 @@ goes_on Redirect go found counts = Ends (Is found) counts
 -- RFC 7208, sections 5.2 and 6.1: the record that a term asks for, once its lookup is counted, which goes on nowhere
 abbrev pub reached_stretch : (ℕ → Address) → RecordContext → ℕ → ℕ → List Piece → ℕ → Stretch
 reached_stretch address context depth t spec a counts go =
-    naming_target (site_of context) t spec counts (λ found. check context.limits (address a) depth found.0 found.1 counts)
+    naming_target (site_of context) t spec counts
+    (λ found. check context.limits (address a) depth found.0 found.1 counts)
 
 -- the record that a term asks for, and what the term makes of its verdict
 abbrev pub target_stretch : (ℕ → Address) → RecordContext → ℕ → ℕ → List Piece → Purpose → ℕ → Stretch

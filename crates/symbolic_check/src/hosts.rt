@@ -96,7 +96,8 @@ fn count_lookup<W: NetworkFamily>(
     term: u32,
     states: &States<W>,
 ) -> Result<States<W>, AllocError>
-    ensures { IfOk result (λ new. (asked : List Asked) → Walks W.BITS (says_at (address_of W.family) context.now.zones.now)
+    ensures { IfOk result (λ new. (asked : List Asked)
+        → Walks W.BITS (says_at (address_of W.family) context.now.zones.now)
         (λ a. judging.counted (site_of context.now) term) states.now new asked asked) }
 {
     steps::count_lookups(context.alloc, states, context.limits, &context.place(term))
@@ -113,7 +114,8 @@ fn match_gathered<W: NetworkFamily>(
     states: &States<W>,
 ) -> Result<States<W>, AllocError>
     requires { MechanismFits mechanism.now }
-    ensures { IfOk result (λ new. (asked : List Asked) → Walks W.BITS (says_at (address_of W.family) context.now.zones.now)
+    ensures { IfOk result (λ new. (asked : List Asked)
+        → Walks W.BITS (says_at (address_of W.family) context.now.zones.now)
         (λ a counts go. judging.judge_gathered (site_of context.now) (address_of W.family a) term
         mechanism.now gathered counts (unless_matched verdict go)) states.now new asked asked) }
 {

@@ -9,7 +9,8 @@ ghost use Rattle.spf_model.specs.Check.{redirect_from};
 ghost use Rattle.spf_model.specs.Leads.{TargetFits, TermFits, TermsFit};
 ghost use Rattle.symbolic_check.specs.Networks as networks;
 ghost use Rattle.symbolic_check.specs.Walk.{Walks, says_at};
-ghost use Rattle.symbolic_check.specs.Stretches.{number_after, term_stretch, terms_stretch, default_stretch, record_stretch, target_stretch, reached_stretch};
+ghost use Rattle.symbolic_check.specs.Stretches.{number_after, term_stretch, terms_stretch, default_stretch};
+ghost use Rattle.symbolic_check.specs.Stretches.{record_stretch, target_stretch, reached_stretch};
 
 use crate::hosts::{walk_hosts, walk_ptr};
 use crate::networks::first_networks;
@@ -41,7 +42,8 @@ fn walk_row<W: NetworkFamily>(
     states: States<W>,
 ) -> Result<States<W>, AllocError>
     requires { list_all networks.is_row_term row.now ≡ true }
-    ensures { IfOk result (λ new. (depth t : ℕ) (asked : List Question) → Walks W.BITS (says_at (address_of W.family) context.now.zones.now)
+    ensures { IfOk result (λ new. (depth t : ℕ) (asked : List Question)
+        → Walks W.BITS (says_at (address_of W.family) context.now.zones.now)
         (terms_stretch (address_of W.family) context.now depth t row.now) states new asked asked) }
 {
     if !steps::is_some_live(&states) {
@@ -85,7 +87,8 @@ fn end_row<W: NetworkFamily>(
 ) -> Result<States<W>, AllocError>
     requires within { start ≤ length terms.now }
     requires row { list_all networks.is_row_term (drop start terms.now) ≡ true }
-    ensures { IfOk result (λ new. (depth t : ℕ) (asked : List Question) → Walks W.BITS (says_at (address_of W.family) context.now.zones.now)
+    ensures { IfOk result (λ new. (depth t : ℕ) (asked : List Question)
+        → Walks W.BITS (says_at (address_of W.family) context.now.zones.now)
         (terms_stretch (address_of W.family) context.now depth t (drop start terms.now)) states new asked asked) }
 {
     walk_row(context, &terms[start..], states)

@@ -1,7 +1,8 @@
 //! Verdicts from outcomes.
 ghost use Rattle.std.specs.Prelude.{◌≡◌, ◌<◌, ◌^◌, ℕ, IfOk, IfErr, IfSome, IfNone, option_map};
 ghost use Rattle.prefix_trie.specs.Leaves.{value_at};
-ghost use Rattle.verdict_map.specs.Verdicts.{has_verdict, verdict_or_neutral, IsVerdictOf, HaveVerdicts, IsLeastWithout, IsFamilyFault, IsFault};
+ghost use Rattle.verdict_map.specs.Verdicts.{has_verdict, verdict_or_neutral, IsVerdictOf, HaveVerdicts};
+ghost use Rattle.verdict_map.specs.Verdicts.{IsLeastWithout, IsFamilyFault, IsFault};
 
 use crate::VerdictFault;
 use addr_bits::{AddressFamily, Width};

@@ -1,5 +1,6 @@
 -- The bytes of a fragment: a master file (RFC 1035, section 5.1) with the project's own table in comments.
-use Rattle.std.specs.Prelude.{ℕ, zero, suc, ◌+◌, ◌==◌, nat_lt, Bool, true, false, List, [], ◌∷◌, ◌++◌, length, take, drop, flat_map, decimal, codes, if◌then◌else◌}
+use Rattle.std.specs.Prelude.{ℕ, zero, suc, ◌+◌, ◌==◌, nat_lt, Bool, true, false, List, [], ◌∷◌, ◌++◌, length, take}
+use Rattle.std.specs.Prelude.{drop, flat_map, decimal, codes, if◌then◌else◌}
 use Rattle.spf_grammar.specs.declared.flat.FlatTerm.{FlatTerm}
 use Rattle.fewest_terms.specs.Row.{NeedRow}
 use Rattle.bound_table.specs.Lines.{table_text}
@@ -37,7 +38,8 @@ is_none (piece ∷ pieces) = false
 abbrev pub record_lines : (domain label : List ℕ) → (k : ℕ) → List (List FlatTerm) → List ℕ
 record_lines domain label k [] = []
 record_lines domain label k (piece ∷ pieces) =
-    record_line (owner_text label k) (record_text domain label piece k (is_none pieces)) ++ record_lines domain label (k + 1) pieces
+    record_line (owner_text label k) (record_text domain label piece k (is_none pieces))
+    ++ record_lines domain label (k + 1) pieces
 
 -- RFC 1035, section 5.1, and RFC 2308, section 4: the origin and the TTL, in seconds
 abbrev pub head_text : (domain : List ℕ) → (ttl : ℕ) → List ℕ

@@ -21,7 +21,10 @@ abbrev pub written_records : (domain label : List ℕ) → (name : List (List �
     → List Record
 written_records domain label name k [] = []
 written_records domain label name k (piece ∷ pieces) =
-    record { owner = record_owner name label k; body = Txt (strings_of (record_text domain label piece k (is_none pieces))) }
+    record {
+      owner = record_owner name label k;
+      body = Txt (strings_of (record_text domain label piece k (is_none pieces)));
+    }
     ∷ written_records domain label name (k + 1) pieces
 
 -- project's own choice, after RFC 1123, section 2.1: a domain and a label in lower case, with which the name of the

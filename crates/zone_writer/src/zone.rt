@@ -66,7 +66,8 @@ pub fn fragment(
     ttl: u32,
 ) -> Result<Bytes, AllocError>
     requires { IsCut (length found.now.list) cut.now.ends }
-    ensures { IfOk result (λ zone. zone ≡ fragment_text domain.now label.now ttl found.now.list cut.now.ends found.now.rows4 found.now.rows6 found.now.total) }
+    ensures { IfOk result (λ zone. zone ≡ fragment_text domain.now label.now ttl found.now.list cut.now.ends
+        found.now.rows4 found.now.rows6 found.now.total) }
 {
     let mut zone = write_head(alloc, domain, ttl)?;
     push_records(
