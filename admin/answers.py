@@ -40,7 +40,15 @@ class Failure:
     why: str
 
 
-Answer = Alias | Data | Void | Failure
+@dataclass(frozen=True)
+class Listed:
+    """A list of senders by address: the questions for A that answer for some address, and all names that exist."""
+
+    questions: tuple[Question, ...]
+    names: frozenset[Name]
+
+
+Answer = Alias | Data | Void | Failure | Listed
 
 
 @dataclass(frozen=True)
@@ -86,6 +94,11 @@ class Facts:
         """The question at the end of the chain, where nothing is known of it, not even that it fails."""
         chain = self.chain(question)
         return None if chain.is_round or self.answer(chain.end) is not None else chain.end
+
+    def listed(self, question: Question) -> Listed | None:
+        """The list that a question for reversed addresses is answered by."""
+        answer = self.answer(question)
+        return answer if isinstance(answer, Listed) else None
 
     def exists(self, question: Question) -> bool:
         """Whether its name exists in DNS."""

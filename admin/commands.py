@@ -88,6 +88,8 @@ COMMANDS: Mapping[str, Command] = {
         _ZONES,
         "the records to publish for one policy that gives each address the strongest verdict of 2 to 8 domains",
     ),
+    "keep": Command(("DOMAIN",), READING, _ZONES, "each question on which the policy rests, and its answer, as a list"),
+    "stale": Command(("FILE",), (), _ZONES, "whether the zones still answer each question of a kept list as it says"),
     "verify": Command(
         ("DOMAIN", "FILE"),
         (*READING, "--size"),
@@ -122,6 +124,8 @@ class Words:
                 at = self.zones.index(WITH) if WITH in self.zones else len(self.zones)
                 first, others = self.zones[:at], self.zones[at + 1 :]
                 return list(zip(self.places, (first, others or first)))
+            case "stale":
+                return [("", self.zones)]
             case _:
                 return [(self.places[0], self.zones)]
 

@@ -13,7 +13,7 @@ from admin.ending import Ending, Status
 from admin.looking import Looker, wrong_words
 from admin.program import USAGE, Program, Run, opened_program
 from admin.reading_lines import OUTCOME, VERDICT, Line, read_line
-from admin.tables import CAUSES, KINDS, LINES, REASONS, STATUSES, Entry
+from admin.tables import CAUSES, KINDS, LINES, QUESTIONS, REASONS, STATUSES, WATCHED, Entry
 
 TOOL = "spfc-explain"
 _NOT_KNOWN = 2
@@ -38,6 +38,8 @@ def explained(line: Line, looked: Iterable[str] = ()) -> Iterator[str]:
         yield _WAYS[line.text.partition(" ")[0]]
     elif line.form.startswith("refused ADDRESS"):
         yield f"The least address that has no verdict: {line.words['ADDRESS']}."
+    elif line.words.get("KIND") in QUESTIONS:
+        yield f"What is asked: {QUESTIONS[line.words['KIND']].plain.meaning}."
     yield from looked
     yield f"What helps: {entries[-1].help}."
 
@@ -47,7 +49,7 @@ def _entries(line: Line) -> list[Entry]:
     if line.cause is not None:
         return [CAUSES[line.cause].plain]
     kind = line.words.get("KIND", "")
-    entry = LINES.get(line.form) or REASONS[line.form]
+    entry = next(table[line.form] for table in (LINES, REASONS, WATCHED) if line.form in table)
     return [entry.plain, *([KINDS[kind].plain] if kind in KINDS else [])]
 
 
@@ -88,10 +90,10 @@ def explain_run(program: Program, given: list[str]) -> int:
 
 
 def _last_line(given: Sequence[str], ended: Run) -> str:
-    """The line of the refusal, behind what listeners were told, or the outcome that `check` printed."""
+    """The line of the refusal, behind what listeners were told, or the one line that `check` or `stale` printed."""
     if ended.status:
         return ended.line.rpartition("\n")[2]
-    return ended.output.rstrip("\n") if given[0] == "check" else ""
+    return ended.output.rstrip("\n") if given[0] in ("check", "stale") else ""
 
 
 def main(given: Sequence[str]) -> int:

@@ -22,13 +22,7 @@ _EXCHANGES = 10
 def _parser() -> words.Parser:
     parser = words.Parser(prog=TOOL, description=__doc__.partition("\n")[0], allow_abbrev=False)
     parser.add_argument("domain", metavar="DOMAIN", type=words.domain, help="the domain whose policy is gathered")
-    parser.add_argument(
-        "others",
-        metavar="@SERVER | ORIGIN=FILE",
-        nargs="*",
-        type=_other,
-        help="ask this name server; read this zone beside the file",
-    )
+    words.add_others(parser)
     words.add_server(parser)
     parser.add_argument("-o", dest="output", metavar="FILE", type=words.path, help="write FILE, whole or not at all")
     parser.add_argument(
@@ -38,23 +32,6 @@ def _parser() -> words.Parser:
     parser.add_argument("--no-names", action="store_true", help="do not ask whether the names of a chain are free")
     words.add_options(parser, words.READING + words.CHAIN)
     return parser
-
-
-def _arguments(given: Sequence[str]) -> argparse.Namespace:
-    """The words, with the server and the zone words apart."""
-    parser = _parser()
-    arguments = parser.parse_intermixed_args(given)
-    servers = [word[1:] for word in arguments.others if word.startswith("@")]
-    if len(servers) > 1:
-        parser.error("there is more than one @SERVER")
-    arguments.server = servers[0] if servers else None
-    arguments.beside = [word for word in arguments.others if not word.startswith("@")]
-    return arguments
-
-
-def _other(text: str) -> str:
-    """A server or a zone word, as they stand."""
-    return f"@{words.server(text)}" if text.startswith("@") else words.zone_word(text)
 
 
 def _judge(program: Program, arguments: argparse.Namespace, reading: Sequence[str]) -> None:
@@ -77,7 +54,7 @@ def _request(program: Program, arguments: argparse.Namespace) -> Request:
         exchanges=int(arguments.exchanges or _EXCHANGES),
         label=None if arguments.no_names else (arguments.label or _LABEL).lower(),
         policy=policy.read_policy(arguments.policy, program) if arguments.policy else None,
-        beside=tuple(arguments.beside),
+        beside=arguments.beside,
     )
 
 
@@ -93,7 +70,7 @@ def gather(request: Request, program: Program, arguments: argparse.Namespace) ->
 
 def main(given: Sequence[str]) -> int:
     """Gathers, or says whether a file holds what is asked, and gives the status."""
-    arguments = _arguments(given)
+    arguments = words.parsed(_parser(), given)
     with opened_program() as program:
         request = _request(program, arguments)
         if arguments.holds:

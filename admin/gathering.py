@@ -1,5 +1,6 @@
 """Asks DNS until every question on which a policy rests is answered."""
 
+import itertools
 from collections.abc import Iterable, Iterator
 from dataclasses import dataclass
 
@@ -9,10 +10,12 @@ from admin import names, policy
 from admin.answers import Alias, Answer, Chain, Data, Facts, Void
 from admin.asking import Asker
 from admin.ending import Ending, Status
+from admin.listing import Lists, targets_beside
 from admin.program import Program
 from admin.progress import Progress
-from admin.questions import Kind, Question, read_questions
+from admin.questions import Kind, Question, read_question, read_questions
 from admin.resolving import Resolver
+from admin.transferring import Transfers
 from admin.world import World
 
 _MOST_ROUNDS = 1_000
@@ -74,6 +77,7 @@ class Gathering:
         self._request = request
         self._program = program
         self._resolver = resolver
+        self._lists = Lists(Transfers(resolver), request.is_beside)
         self._progress = progress
         self._facts = Facts()
         self._policy_answer: Answer | None = None
@@ -111,6 +115,8 @@ class Gathering:
         request, zone = self._request, world.zone()
         lines = self._program.questions(request.domain, request.reading, zone, request.beside)
         asker = Asker(self._program, request.reading, self._program.zones(request.beside))
+        reversed_lines = [line for line in lines if read_question(line).kind.is_reversed]
+        lines += [line for line in self._lines_of_lists(reversed_lines) if line not in lines]
         asked = read_questions(line for line in lines if not self._is_answered_beside(line, asker))
         if len(asked) > _MOST_QUESTIONS:
             raise Ending(Status.CONTRADICTION, f"more than {_MOST_QUESTIONS} questions")
@@ -118,11 +124,20 @@ class Gathering:
 
     def _is_answered_beside(self, line: str, asker: Asker) -> bool:
         """Whether a question of `deps` is answered by the zones beside the file, and never led out of them."""
-        if not self._request.is_beside(names.read(line.partition(" ")[0])):
+        question = read_question(line)
+        if not self._request.is_beside(question.name):
             return False
+        if question.kind.is_reversed:
+            return True
         if asker.is_outside(line):
             self._leading_out.add(line)
         return line not in self._leading_out
+
+    def _lines_of_lists(self, lines: list[str]) -> Iterator[str]:
+        """The questions to which lists of addresses lead in the zones beside the file."""
+        for line in lines:
+            targets = targets_beside(self._request.beside, read_question(line))
+            yield from sorted({str(Question(target, Kind.A)) for target in targets})
 
     def _ask_missing(self, questions: list[Question], place: str) -> None:
         """Asks what is missing, and what the answers lead to, until nothing is."""
@@ -131,12 +146,19 @@ class Gathering:
             def tell(number: int, question: Question, total: int = len(missing)) -> None:
                 self._progress.tell(f"{place}: question {number + 1} of {total}: {question}")
 
-            for question, answer in self._resolver.ask_all(missing, tell):
+            lists = [question for question in missing if question.kind.is_reversed]
+            others = [question for question in missing if not question.kind.is_reversed]
+            for question, answer in self._resolver.ask_all(others, tell):
                 self._facts.learn(question, answer)
+            for number, question in enumerate(lists, len(others)):
+                tell(number, question)
+                for found, answer in self._lists.ask(question):
+                    self._facts.learn(found, answer)
 
     def _missing(self, questions: list[Question]) -> list[Question]:
         """The questions that are to be asked next, each once."""
-        wanted = [*questions, *self._expected(questions), *self._probes()]
+        lists = (listed.questions for question in questions if (listed := self._facts.listed(question)))
+        wanted = [*questions, *itertools.chain.from_iterable(lists), *self._expected(questions), *self._probes()]
         missing = (self._facts.missing(question) for question in wanted)
         return list(dict.fromkeys(question for question in missing if question is not None))
 

@@ -14,7 +14,7 @@ _PROVED = (
 _PLACES = {
     "DOMAIN": "a domain, without a final dot",
     "ADDRESS": "an IPv4 or an IPv6 address",
-    "FILE": "the file that is judged",
+    "FILE": "the file that is judged: records to publish, or of stale a kept list",
 }
 _MORE = "spfc help COMMAND: more of a command; spfc version: what is proved"
 _TOOLS = "spfc-gather asks DNS, spfc-nightly watches what is published, spfc-explain says what a line means"

@@ -6,6 +6,7 @@ from pathlib import Path
 
 from admin.asking import Asker
 from admin.commands import READING, Words
+from admin.looking_at_lists import look_bad, look_stale
 from admin.program import USAGE, Program
 from admin.reading_lines import Line, read_line
 from admin.texts import texts_at
@@ -54,6 +55,11 @@ class Looker:
             yield from _lines_of(Path(self._words.places[1]), int(line.words["LINE"]))
         elif line.form.startswith("no verdict"):
             yield from self._verdicts(line.words["ADDRESS"])
+        elif line.form.startswith("bad list"):
+            yield from look_bad(Path(line.words["FILE"]), int(line.words["LINE"]))
+        elif line.form.startswith("stale"):
+            question = f"{line.words['NAME']} {line.words['KIND']}"
+            yield from look_stale(self._program, Path(self._words.places[0]), question, self._zones)
 
     def _record(self, name: str, term: int) -> Iterator[str]:
         """The SPF records at the name, their terms numbered, with the term marked."""
@@ -117,7 +123,8 @@ class Looker:
         asked = self._program.run(["deps", self._domain, *self._words.reading, *self._zones])
         for question in asked.output.splitlines() if asked.status == 0 else ():
             if self._asker.is_outside(question):
-                yield f"No file answers this question: {question}"
+                none = "For some address no" if " REVERSE" in question else "No"
+                yield f"{none} file answers this question: {question}"
 
     def _missing(self, line: Line) -> Iterator[str]:
         """What the name of an include or a redirect has."""

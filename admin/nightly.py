@@ -23,6 +23,7 @@ from admin.names import read
 from admin.program import Program, Run, opened_program
 from admin.progress import Progress
 from admin.questions import Kind, Question
+from admin.watching import Watch
 
 TOOL = "spfc-nightly"
 _LABELS = ("_spfa", "_spfb")
@@ -52,7 +53,8 @@ class Change:
     @property
     def text(self) -> str:
         """In words."""
-        return f"{self.count} addresses, the least {self.least}, from {self.old} to {self.new}"
+        counted = "1 address" if self.count == 1 else f"{self.count} addresses"
+        return f"{counted}, the least {self.least}, from {self.old} to {self.new}"
 
 
 class Nightly:
@@ -63,9 +65,14 @@ class Nightly:
         self._program = program
         self._domain = arguments.domain
         self._reading = words.given(arguments, words.READING)
-        self._compiling = [*self._reading, *words.given(arguments, ("size", "ttl"))]
-        self._request = Request(self._domain, self._reading, int(arguments.exchanges or _EXCHANGES))
+        self._beside = arguments.beside
+        self._compiling = [*self._reading, *words.given(arguments, ("size", "ttl")), *self._beside]
+        exchanges = int(arguments.exchanges or _EXCHANGES)
+        self._request = Request(self._domain, self._reading, exchanges, beside=self._beside)
         self._policy = policy.read_policy(arguments.policy, program)
+        self._watch = None
+        if arguments.kept is not None:
+            self._watch = Watch(program, arguments.kept, self._domain, [*self._reading, *self._beside])
 
     def run(self) -> Verdict:
         """Gathers what is published and what the policy says today, and compares their verdicts."""
@@ -74,7 +81,7 @@ class Nightly:
         live_zone, zone = live.world.zone(), source.world.zone()
         wanted = self._compiled(_NOBODYS_LABEL, zone)
         if wanted.status:
-            return self._refused(wanted)
+            return self._refused(wanted, zone)
         published = self._compiled(_NOBODYS_LABEL, live_zone)
         if published.status == 0 and published.output == wanted.output:
             return self._end(Verdict.SAME, zone)
@@ -83,7 +90,7 @@ class Nightly:
         changes = self._changes(live_zone, zone) if published.status == 0 else []
         lost = sum(change.count for change in changes if change.old == "pass")
         if self._arguments.max_lost is not None and lost > self._arguments.max_lost:
-            return self._end(Verdict.REFUSED, None, f"{lost} addresses lose their pass", *(one.text for one in changes))
+            return self._end(Verdict.REFUSED, zone, f"{lost} addresses lose their pass", *(one.text for one in changes))
         return self._publish(live, changes)
 
     def _publish(self, live: Gathered, changes: list[Change]) -> Verdict:
@@ -93,7 +100,7 @@ class Nightly:
         zone = source.world.zone()
         fragment = self._compiled(label, zone)
         if fragment.status:
-            return self._refused(fragment)
+            return self._refused(fragment, zone)
         written.write(self._arguments.output, fragment.output)
         return self._end(Verdict.CHANGED, zone, *(change.text for change in changes))
 
@@ -117,38 +124,26 @@ class Nightly:
         """What `compare` says, where the program has it."""
         before = self._program.folder / "published"
         before.write_text(live, encoding="latin-1")
-        command = ["compare", self._domain, self._domain, *self._reading, f".={before}", "with"]
+        policies = [self._domain, self._domain, *self._reading]
+        command = ["compare", *policies, *self._beside, f".={before}", "with", *self._beside]
         ended = self._program.over(command, zone)
         lines = [line.split(" ") for line in ended.output.splitlines() if line.startswith("differ ")]
         return [Change(old, new, least, _number(least, count)) for _, old, new, least, count in lines]
 
-    def _refused(self, ended: Run) -> Verdict:
+    def _refused(self, ended: Run, zone: str) -> Verdict:
         print(ended.line, file=sys.stderr)
-        return self._end(Verdict.REFUSED if ended.status in _REFUSED else Verdict.UNKNOWN, None)
+        return self._end(Verdict.REFUSED if ended.status in _REFUSED else Verdict.UNKNOWN, zone)
 
-    def _end(self, verdict: Verdict, zone: str | None, *lines: str) -> Verdict:
-        """Prints what the night ends with, and which answers changed since the kept list was written."""
-        print(f"{verdict.name.lower()} {self._domain}", *lines, sep="\n")
-        if self._arguments.kept is not None and zone is not None:
-            self._print_answers(zone)
+    def _end(self, verdict: Verdict, zone: str, *lines: str) -> Verdict:
+        """Prints what the night ends with, and which answers changed since the kept list was written.
+
+        A night that is refused leaves the list as it is, so that each such night says what has changed since.
+        """
+        changes = self._watch.changes(zone) if self._watch else []
+        print(f"{verdict.name.lower()} {self._domain}", *lines, *changes, sep="\n")
+        if self._watch and verdict in (Verdict.SAME, Verdict.CHANGED):
+            self._watch.renew(zone)
         return verdict
-
-    def _print_answers(self, zone: str) -> None:
-        """Prints the questions whose answers changed, and keeps those of today."""
-        kept = self._program.over(["keep", self._domain, *self._reading], zone).output
-        path = self._arguments.kept
-        if path.exists():
-            old, new = (_answers(text) for text in (path.read_text(encoding="latin-1"), kept))
-            for question in sorted({*old, *new}):
-                if old.get(question) != new.get(question):
-                    print(f"answered otherwise: {question}")
-        written.write(path, kept)
-
-
-def _answers(kept: str) -> dict[str, str]:
-    """The answers of a kept list, by the questions. A name that is not there is as void as one without data."""
-    lines = [line.split(" ", 2) for line in kept.splitlines() if not line.startswith(";")]
-    return {f"{name} {kind}": "nodata" if answer == "noname" else answer for name, kind, answer in lines}
 
 
 def _number(least: str, count: str) -> int:
@@ -168,11 +163,11 @@ def _parser() -> words.Parser:
     parser.add_argument("domain", metavar="DOMAIN", type=words.domain, help="the domain that publishes flat records")
     parser.add_argument("policy", metavar="POLICY", type=words.path, help="a file with the text of its old record")
     parser.add_argument("output", metavar="FILE", type=words.path, help="the fragment goes here where it is to change")
-    parser.add_argument("server", metavar="@SERVER", nargs="?", type=words.server, help="ask this name server")
+    words.add_others(parser)
     words.add_server(parser)
     parser.add_argument("--labels", metavar="A,B", type=_labels, default=_LABELS, help="labels to use by turns")
     parser.add_argument(
-        "--kept", metavar="FILE", type=words.path, help="keep each night's answers here, and say which changed"
+        "--kept", metavar="FILE", type=words.path, help="keep a night's answers here, and say which changed since"
     )
     parser.add_argument("--max-lost", metavar="N", type=int, help="refuse where more addresses lose their pass")
     words.add_options(parser, (*words.READING, "size", "ttl"))
@@ -184,10 +179,14 @@ def _judge(program: Program, arguments: argparse.Namespace) -> None:
     reading = words.given(arguments, words.READING)
     for label in arguments.labels:
         options = [*reading, *words.given(arguments, ("size", "ttl")), "--label", label]
-        words.judge(program, ["compile", arguments.domain, *options])
-    wanted = {"deps": True, "keep": arguments.kept is not None}
-    for command in (name for name, is_wanted in wanted.items() if is_wanted):
-        if not program.knows(command, arguments.domain, *reading):
+        words.judge(program, ["compile", arguments.domain, *options, *arguments.beside])
+    if Request(arguments.domain, beside=arguments.beside).is_beside(read(arguments.domain)):
+        raise Ending(Status.USAGE, f"the zone of {arguments.domain} is not to be a file: DNS says what is published")
+    wanted = {"deps": [arguments.domain, *reading]}
+    if arguments.kept is not None:
+        wanted |= {"keep": [arguments.domain, *reading], "stale": [str(arguments.kept)]}
+    for command, given in wanted.items():
+        if not program.knows(command, *given):
             raise Ending(Status.TOOL, f"{program.path} has no command {command}")
     if arguments.max_lost is not None and not program.knows("compare", arguments.domain, arguments.domain, *reading):
         raise Ending(Status.TOOL, f"{program.path} has no command compare, which --max-lost needs")
@@ -195,7 +194,7 @@ def _judge(program: Program, arguments: argparse.Namespace) -> None:
 
 def main(given: Sequence[str]) -> int:
     """Does one night's work, and gives the status."""
-    arguments = _parser().parse_intermixed_args(given)
+    arguments = words.parsed(_parser(), given)
     with opened_program() as program:
         _judge(program, arguments)
         try:

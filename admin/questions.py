@@ -7,17 +7,26 @@ from dataclasses import dataclass
 from dns.name import Name
 
 from admin import names
-from admin.ending import Ending, Status
 
 
 class Kind(enum.StrEnum):
-    """The type of the records that a question is for. CNAME is asked by the tools alone, of names that must be free."""
+    """The type of the records that a question is for. CNAME is asked by the tools alone, of names that must be free.
+
+    The two of reversed addresses stand for A at the reversed name of each address of a family, in front of the name.
+    """
 
     A = "A"
     AAAA = "AAAA"
     MX = "MX"
     TXT = "TXT"
+    REVERSE4 = "REVERSE4"
+    REVERSE6 = "REVERSE6"
     CNAME = "CNAME"
+
+    @property
+    def is_reversed(self) -> bool:
+        """Whether it stands for a question for each address of a family."""
+        return self in (Kind.REVERSE4, Kind.REVERSE6)
 
 
 @dataclass(frozen=True)
@@ -32,18 +41,11 @@ class Question:
 
 
 def read_questions(lines: Iterable[str]) -> list[Question]:
-    """The questions of the output of `spfc deps`.
-
-    A kind of reversed addresses stands for as many questions as a family has addresses: no server is asked those.
-    """
-    return [_read_question(line) for line in lines]
+    """The questions of the output of `spfc deps`."""
+    return [read_question(line) for line in lines]
 
 
-def _read_question(line: str) -> Question:
+def read_question(line: str) -> Question:
+    """The question of one line."""
     name, _, kind = line.rpartition(" ")
-    if kind.startswith("REVERSE"):
-        raise Ending(
-            Status.CONTRADICTION,
-            f"the policy asks for each address below {name}, which is too much to ask: have its zone as a file",
-        )
     return Question(names.read(name), Kind(kind))

@@ -3,7 +3,7 @@
 import re
 from dataclasses import dataclass
 
-from admin.tables import CAUSES, LINES, REASONS
+from admin.tables import CAUSES, LINES, REASONS, WATCHED
 
 _VERDICTS = ("pass", "fail", "softfail", "neutral")
 _OUTCOME = re.compile(r"(?P<way>none|permerror|temperror|open) (?P<cause>[a-z]+) (?P<name>\S+) (?P<term>\d+)")
@@ -36,7 +36,7 @@ def read_line(text: str) -> Line | None:
         found = pattern.fullmatch(text)
         if found and found["cause"] in CAUSES:
             return Line(text, form, {key.upper(): value for key, value in found.groupdict().items()})
-    for form in (*LINES, *REASONS):
+    for form in (*LINES, *REASONS, *WATCHED):
         if (found := re.fullmatch(_pattern(form), text)) and "CAUSE" not in form:
             return Line(text, form, found.groupdict())
     return None

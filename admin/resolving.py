@@ -1,7 +1,7 @@
 """Asks name servers."""
 
 import socket
-from collections.abc import Callable, Iterable
+from collections.abc import Callable, Iterable, Iterator
 from concurrent.futures import ThreadPoolExecutor
 from dataclasses import dataclass, field
 from threading import Event
@@ -11,6 +11,7 @@ import dns.message
 import dns.query
 import dns.rcode
 import dns.resolver
+from dns.name import Name
 
 from admin.answers import Answer, Failure
 from admin.ending import Ending, Status
@@ -44,6 +45,8 @@ class Resolver:
     tries: int = 3
     seconds: float = 5.0
     at_once: int = 8
+    are_named: bool = False
+    """Whether a person named them. Else they are the resolvers of this machine."""
     _stopped: Event = field(default_factory=Event)
 
     def ask_all(self, questions: Iterable[Question], tell: Callable[[int, Question], None]) -> Learned:
@@ -64,32 +67,46 @@ class Resolver:
     def ask(self, question: Question) -> Learned:
         """Asks one question, anew where it fails, each time of the next server."""
         learned: Learned = []
-        for attempt in range(self.tries):
-            if attempt and self._stopped.wait(_PAUSE):
-                break
-            learned, is_final = self._try(question, self.servers[attempt % len(self.servers)])
+        for server in self._attempts():
+            learned, is_final = self._try(question, server)
             if is_final:
                 break
         return learned
+
+    def reply(self, name: Name, kind: str) -> dns.message.Message | Failure:
+        """The reply to a question for records of any type, asked anew where it fails."""
+        reply: dns.message.Message | Failure = Failure("no reply")
+        for server in self._attempts():
+            reply = self._exchange(name, kind, server)
+            if isinstance(reply, dns.message.Message) and reply.rcode() in ANSWERED:
+                return reply
+        return Failure(dns.rcode.to_text(reply.rcode())) if isinstance(reply, dns.message.Message) else reply
+
+    def _attempts(self) -> Iterator[str]:
+        """The server of each attempt at a question, with a pause between two."""
+        for attempt in range(self.tries):
+            if attempt and self._stopped.wait(_PAUSE):
+                return
+            yield self.servers[attempt % len(self.servers)]
 
     def _try(self, question: Question, server: str) -> tuple[Learned, bool]:
         """What one server says, and whether it need not be asked again.
 
         A resolver that gives up on a chain of aliases is asked for one step of it.
         """
-        reply = self._exchange(question, server)
+        reply = self._exchange(question.name, question.kind, server)
         if isinstance(reply, Failure):
             return [(question, reply)], False
         if reply.rcode() == dns.rcode.SERVFAIL:
-            step = self._exchange(Question(question.name, Kind.CNAME), server)
+            step = self._exchange(question.name, Kind.CNAME, server)
             if not isinstance(step, Failure) and has_alias(step, question.name):
                 return list(read_reply(question, step)), True
         is_refused = reply.rcode() == dns.rcode.REFUSED and len(self.servers) == 1
         return list(read_reply(question, reply)), is_refused or reply.rcode() in ANSWERED
 
-    def _exchange(self, question: Question, server: str) -> dns.message.Message | Failure:
+    def _exchange(self, name: Name, kind: str, server: str) -> dns.message.Message | Failure:
         """A query and its reply, over TCP where UDP has no room for it."""
-        query = dns.message.make_query(question.name, question.kind, use_edns=0, payload=_PAYLOAD)
+        query = dns.message.make_query(name, kind, use_edns=0, payload=_PAYLOAD)
         try:
             return dns.query.udp_with_fallback(query, server, self.seconds, self.port, ignore_unexpected=True)[0]
         except (dns.exception.Timeout, OSError, EOFError):

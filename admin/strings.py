@@ -1,5 +1,7 @@
 """The strings of TXT records."""
 
+from collections.abc import Sequence
+
 import dns.rdataclass
 import dns.rdatatype
 from dns.rdtypes.ANY.TXT import TXT
@@ -10,5 +12,11 @@ _MOST_OCTETS = 255
 
 def presented(text: bytes) -> str:
     """The text in presentation form, cut into strings."""
-    strings = [text[start : start + _MOST_OCTETS] for start in range(0, len(text), _MOST_OCTETS)] or [b""]
+    return presented_strings(
+        [text[start : start + _MOST_OCTETS] for start in range(0, len(text), _MOST_OCTETS)] or [b""]
+    )
+
+
+def presented_strings(strings: Sequence[bytes]) -> str:
+    """Strings in presentation form."""
     return str(TXT(dns.rdataclass.IN, dns.rdatatype.TXT, strings).to_text())

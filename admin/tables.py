@@ -57,7 +57,11 @@ CAUSES: Mapping[str, Entry] = {
         "the term needs the name that the sending host gives (`%{h}`)",
         _NO_LIST,
     ),
-    "address": Entry("the term needs the very address (`%{i}`)", _NO_LIST),
+    "address": Entry(
+        "the term needs the very address (`%{i}`) in another form than `exists:%{ir}.NAME`, or NAME is longer than 189 "
+        "characters",
+        _NO_LIST,
+    ),
     "reverse": Entry(
         "the term needs the name of the address (`ptr`, `%{p}`)",
         _NO_LIST,
@@ -98,6 +102,11 @@ LINES: Mapping[str, Entry] = {
     "bad zone FILE LINE KIND": Entry(
         "the entry that begins on this line is the first that is broken or has no meaning", "see below, by KIND"
     ),
+    "bad list FILE LINE": Entry(
+        "FILE is no list that `keep` wrote: this line is the first that is not as a list has it, which is line 1 for "
+        "an empty file",
+        "have `keep` write the list anew, and change nothing in it by hand",
+    ),
     "alias and other ORIGIN NAME": Entry(
         "NAME has two different CNAME records, or a CNAME record and an A, AAAA, MX, TXT or NS record",
         "leave the alias or the others",
@@ -136,6 +145,35 @@ REASONS: Mapping[str, Entry] = {
     ),
 }
 """Why `verify` does not accept a file."""
+
+WATCHED: Mapping[str, Entry] = {
+    "fresh": Entry(
+        "each question of the list is answered as it was, so the policy gives every address the outcome that it gave",
+        "the policy asks for nothing; whether what is published is right is asked by `verify`",
+    ),
+    "stale NAME KIND": Entry(
+        "this is the first question of the list that is answered otherwise than it was",
+        "gather again, compile, and `compare` with what is published: another answer may change no verdict",
+    ),
+}
+"""What `stale` says of a kept list that is one."""
+
+QUESTIONS: Mapping[str, Entry] = {
+    "A": Entry("the IPv4 addresses of a name, or of `exists` whether it has any", "`a`, `mx` of its hosts, `exists`"),
+    "AAAA": Entry("the IPv6 addresses of a name", "`a`, `mx` of its hosts"),
+    "MX": Entry("the mail hosts of a name", "`mx`"),
+    "TXT": Entry("the record of a name", "the policy itself, `include`, `redirect`"),
+    "REVERSE4": Entry(
+        "for each IPv4 address whether its four numbers, the last first, in front of the name have an A record",
+        "`exists:%{ir}.NAME`",
+    ),
+    "REVERSE6": Entry(
+        "for each IPv6 address whether its 32 hexadecimal digits, the last first, in front of the name have an A "
+        "record",
+        "`exists:%{ir}.NAME`",
+    ),
+}
+"""What a question of each kind asks for, and which terms ask it."""
 
 _FLAT = "write the zone out flat first: `named-compilezone -o flat example.com zone`"
 _OUT = "take these records out of the copy"

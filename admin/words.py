@@ -47,6 +47,33 @@ def zone_word(text: str) -> str:
     return text
 
 
+def add_others(parser: argparse.ArgumentParser) -> None:
+    """The words that name a server and zones, in any order."""
+    parser.add_argument(
+        "others",
+        metavar="@SERVER | ORIGIN=FILE",
+        nargs="*",
+        type=_other,
+        help="ask this name server; read this zone beside what is gathered",
+    )
+
+
+def parsed(parser: argparse.ArgumentParser, given: Sequence[str]) -> argparse.Namespace:
+    """The words, with the server and the zone words apart."""
+    arguments = parser.parse_intermixed_args(given)
+    servers = [word for word in arguments.others if word.startswith("@")]
+    if len(servers) > 1:
+        parser.error("there is more than one @SERVER")
+    arguments.server = servers[0][1:] if servers else None
+    arguments.beside = tuple(word for word in arguments.others if not word.startswith("@"))
+    return arguments
+
+
+def _other(text: str) -> str:
+    """A server or a zone word, as they stand."""
+    return f"@{server(text)}" if text.startswith("@") else zone_word(text)
+
+
 def add_server(parser: argparse.ArgumentParser) -> None:
     """The words that say which server is asked, and how."""
     parser.add_argument("-p", dest="port", metavar="PORT", type=positive, default=53, help="at this port")
@@ -75,7 +102,7 @@ def domain(text: str) -> str:
 def resolver(arguments: argparse.Namespace) -> Resolver:
     """The servers that the words name."""
     how = (arguments.port, arguments.tries, float(arguments.time), arguments.jobs)
-    return Resolver(addresses(arguments.server), *how)
+    return Resolver(addresses(arguments.server), *how, are_named=arguments.server is not None)
 
 
 def judge(program: Program, command: Sequence[str]) -> None:

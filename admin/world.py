@@ -6,7 +6,7 @@ from dns.name import Name
 
 from admin import names
 from admin.answers import Alias, Answer, Data, Facts, Failure, Void
-from admin.closing import OUT, closing
+from admin.closing import OUT, closing, is_below
 from admin.ending import Ending, Status
 from admin.questions import Kind, Question
 from admin.records import Record, marker
@@ -18,14 +18,20 @@ class World:
     - A step of an alias is a CNAME record of its own. Where a name is an alias for some kinds alone, or leads to
       different names, no CNAME record could stand there: what the aliases lead to is written at the name.
     - A name that has nothing of what was asked, or does not exist, has a marker, so that it is void.
+    - A list of senders by address has all its names, and no other name below its own is written, whoever asks for it:
+      there the list itself says what does not exist, and what a wildcard answers is written at the wildcard.
     - A name that must not stand by itself (`floating`: it does not exist, or a wildcard answers for it, and whether it
       stands there matters) is written as the wildcard below the name above it, as are all names below it.
     """
 
     def __init__(self, facts: Facts, questions: Iterable[Question], floating: Iterable[Name]) -> None:
         self._facts = facts
-        self._questions = list(questions)
         self._floating = frozenset(floating)
+        asked = list(questions)
+        lists = [(question.name, listed) for question in asked if (listed := facts.listed(question))]
+        self._whole = frozenset(name for name, _ in lists if self._owner(name) == name)
+        self._listed = {one for name, listed in lists for one in listed.names - {name} or {name}}
+        self._questions = list(dict.fromkeys([*asked, *(one for _, listed in lists for one in listed.questions)]))
         self._kinds: dict[Name, set[Kind]] = {}
         for question in self._questions:
             for step in facts.chain(question).steps:
@@ -45,6 +51,8 @@ class World:
         for question in self._questions:
             self._write(question)
         records = {record for written in self._written.values() for record in written}
+        owners = {record.owner for record in records}
+        records |= {marker(owner) for name in self._listed if (owner := self._owner(name)) not in owners}
         if any(record.owner.is_subdomain(OUT) for record in records):
             raise Ending(Status.CONTRADICTION, f"contradiction: the policy asks for {names.printed(OUT)}")
         return records
@@ -52,7 +60,7 @@ class World:
     def zone(self) -> str:
         """The records as a master file of the root, and behind them those that close the world."""
         records = self.records()
-        closed = closing(record.owner for record in records)
+        closed = closing({record.owner for record in records}, self._whole)
         lines = [*sorted(map(str, records)), "; What was not asked leads out of this file:", *sorted(map(str, closed))]
         return "\n".join(lines) + "\n"
 
@@ -82,6 +90,10 @@ class World:
 
     def _put(self, step: Question, answer: Answer | None) -> None:
         owner = self._owner(step.name)
+        if is_below(step.name, self._whole) and step.name not in self._listed:
+            if step.kind is Kind.A or not isinstance(answer, Data):
+                return
+            owner = self._wildcard_of_list(step.name)
         match answer:
             case Alias():
                 self._add(owner, step.kind, {Record(owner, "CNAME", names.absolute(answer.target))})
@@ -96,10 +108,16 @@ class World:
 
     def _owner(self, name: Name) -> Name:
         """The name itself, or the wildcard that is written for it."""
-        uppermost = next((upper for upper in reversed(names.with_ancestors(name)) if upper in self._floating), None)
-        if uppermost is None:
+        above = [upper for upper in self._floating if name.is_subdomain(upper)]
+        if not above:
             return name
-        return Name((names.WILDCARD, *uppermost.parent().labels))
+        return Name((names.WILDCARD, *min(above, key=len).parent().labels))
+
+    def _wildcard_of_list(self, name: Name) -> Name:
+        """The wildcard of a list that answers for a name: the one below the closest name above that exists there."""
+        above = names.with_ancestors(name)[1:]
+        closest = next(upper for upper in above if any(one.is_subdomain(upper) for one in self._listed))
+        return Name((names.WILDCARD, *closest.labels))
 
 
 def _beside_others(answer: Answer | None) -> Answer | None:

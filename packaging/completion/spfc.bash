@@ -2,7 +2,7 @@
 
 _spfc() {
     local word=${COMP_WORDS[COMP_CWORD]} before=${COMP_WORDS[COMP_CWORD - 1]} tool=${COMP_WORDS[0]##*/}
-    local commands='compile check deps compare join verify trial' options=
+    local commands='compile check deps compare join keep stale verify trial' options=
     local reading='--lookups --voids --exchanges'
     COMPREPLY=()
     case $before in
@@ -32,7 +32,7 @@ _spfc() {
                 compile) options="$reading --size --ttl --label --trace" ;;
                 verify) options="$reading --size" ;;
                 join) options="$reading --weakest --size --ttl --label" ;;
-                check | deps) options=$reading ;;
+                check | deps | keep) options=$reading ;;
                 compare) options="$reading with" ;;
             esac
             ;;

@@ -14,19 +14,90 @@ from scene import TOP, Ended, Report, Scene
 
 sys.path.insert(0, str(TOP))
 from admin.reading_lines import read_line  # noqa: E402
-from admin.tables import CAUSES, KINDS, LINES, REASONS, Entry, markdown  # noqa: E402
+from admin.tables import CAUSES, KINDS, LINES, QUESTIONS, REASONS, WATCHED, Entry, markdown  # noqa: E402
 
 _DOCUMENT = TOP / "docs/ADMINISTRATORS.md"
-_HEADS = ("What it means", "What helps")
-_TABLES = [("CAUSE", CAUSES), ("Line", LINES), ("Line", REASONS), ("KIND", KINDS)]
+_MEANT = ("What it means", "What helps")
+_TABLES = [
+    (("CAUSE", *_MEANT), CAUSES),
+    (("Line", *_MEANT), LINES),
+    (("Line", *_MEANT), REASONS),
+    (("Line", *_MEANT), WATCHED),
+    (("KIND", *_MEANT), KINDS),
+    (("KIND", "What is asked", "What asks it"), QUESTIONS),
+]
 
-_BY_OTHERS = ("refused ADDRESS", "bad zone", "no zone")
-"""Lines whose cause or kind has an entry of its own, under which their cases stand."""
+_BY_OTHERS = ("refused ADDRESS", "bad zone", "no zone", "bad list")
+"""Lines whose cause or kind has an entry of its own, under which their cases stand, or a check of their own."""
+
+_POLICY = '@ IN TXT "v=spf1 a:aa.example.com a:host.example.com mx exists:%{ir}.list.%{d} ~all"\n'
+_HOSTS = """aa IN A 192.0.2.1
+aa IN AAAA 2001:db8::1
+host IN A 192.0.2.3
+host IN AAAA 2001:db8::3
+@ IN MX 10 host
+10.2.0.192.list IN A 127.0.0.2
+"""
+_CHANGED = {
+    "": ["fresh", "each question of the list is answered as it was", "What helps: the policy asks for nothing"],
+    "host IN A 192.0.2.3 => host IN A 192.0.2.9": [
+        "stale host.example.com A",
+        "What is asked: the IPv4 addresses of a name",
+        "Kept, and not answered today: 192.0.2.3.",
+        "Answered today, and not kept: 192.0.2.9.",
+        "What helps: gather again, compile, and compare",
+    ],
+    "host IN AAAA 2001:db8::3 => other IN A 192.0.2.3": [
+        "stale host.example.com AAAA",
+        "Kept, and not answered today: 2001:db8::3.",
+        "Answered today, and not kept: the name has no records of this kind.",
+    ],
+    "MX 10 host => MX 20 host": ["stale example.com MX", "Answered today, and not kept: 20 host.example.com."],
+    "~all => -all": [
+        "stale example.com TXT",
+        'Kept, and not answered today: "v=spf1 a:aa.example.com a:host.example.com mx exists:%{ir}.list.%{d} ~all".',
+        "-all",
+    ],
+    '"v=spf1 a:aa => "v=spf1 " "a:aa': ["stale example.com TXT", 'today, and not kept: "v=spf1 " "a:aa.example.com '],
+    "10.2.0.192.list IN A 127.0.0.2 => *.2.0.192.list IN A 127.0.0.2": [
+        "stale list.example.com REVERSE4",
+        "10 addresses from 192.0.2.0 on: not listed in the kept list, listed today.",
+        "245 addresses from 192.0.2.11 on: not listed in the kept list, listed today.",
+    ],
+    "10.2.0.192.list IN A 127.0.0.2 => 10.2.0.192.list IN TXT \"gone\"": [
+        "1 address from 192.0.2.10 on: listed in the kept list, not listed today.",
+    ],
+    "aa IN A 192.0.2.1 => aa IN A 192.0.2.2 | a:aa.example.com => ip4:192.0.2.1": [
+        "stale aa.example.com A",
+        "Today the policy of example.com does not ask this any more.",
+        "Answered today, and not kept: 192.0.2.2.",
+        "Further questions of the list that are answered otherwise, or not asked any more: 2.",
+    ],
+}
+"""Changes of a zone, and what is said of the list that was kept before."""
+
+_DAMAGED = {
+    "; deps example.com 10 2 10 => ; deps example.com 10 2": [
+        "bad list kept 1",
+        "The first line is to be: ; deps DOMAIN LOOKUPS VOIDS EXCHANGES",
+        "    1: ; deps example.com 10 2",
+    ],
+    "example.com MX => example.com MAIL": [
+        "bad list kept 4",
+        "    4: example.com MAIL found",
+        "Each line behind the first is to be: NAME KIND ANSWER, with one of the kinds A, AAAA, MX, TXT, REVERSE4",
+    ],
+    "*": ["bad list kept 1", "which is line 1 for an empty file"],
+}
+"""What is said of lists that were changed by hand; behind the star of one that is empty."""
 
 _SAID = {
     "refused-syntax": "This is no term of an SPF record: foo",
     "chain-name-is-taken": "This label is free in the files: --label _spfa",
     "size-tangle-beside-1500-octets-is-too-big": "The least size that does: --size 1545",
+    "refused-address-outside-a-reversed-list": (
+        "For some address no file answers this question: list.example.com REVERSE4"
+    ),
     "bad-zone-open-quote-on-line-4": '    4: @ IN TXT "v=spf1 -all',
     "compile-eleven-hosts-are-one-lookup-too-many": "For 128.0.0.0 it takes 11: --lookups 11 reads it.",
 }
@@ -55,6 +126,7 @@ def checks(scene: Scene) -> Iterator[tuple[str, Any]]:
     yield "explain-lines", lambda: _lines(scene)
     yield "explain-cases", lambda: _cases(scene)
     yield "explain-files", lambda: _files(scene)
+    yield "explain-kept", lambda: _kept(scene)
     yield "tables", lambda: _documents()
 
 
@@ -99,6 +171,42 @@ def _files(scene: Scene) -> Report:
     return report
 
 
+def _kept(scene: Scene) -> Report:
+    """What is said of a kept list over a zone that has changed since, and of one that was changed by hand."""
+    report = Report()
+    folder = scene.folder("explain-kept")
+    (folder / "zone").write_text(_POLICY + _HOSTS)
+    kept = scene.spfc("keep", "example.com", "example.com=zone", folder=folder).output
+    (folder / "kept").write_text(kept)
+    for changes, texts in _CHANGED.items():
+        (folder / "zone").write_text(_edited(_POLICY + _HOSTS, changes))
+        _expect_said(report, scene, folder, texts)
+    (folder / "zone").write_text(_POLICY + _HOSTS)
+    for changes, texts in _DAMAGED.items():
+        (folder / "kept").write_text("" if changes == "*" else _edited(kept, changes))
+        _expect_said(report, scene, folder, texts)
+    for form in WATCHED:
+        ended = scene.tool("spfc-explain", form.replace("NAME KIND", "example.com REVERSE6"))
+        report.expect(f"explain {form}", (0, True), (ended.status, WATCHED[form].plain.help in ended.output))
+    return report
+
+
+def _edited(text: str, changes: str) -> str:
+    """The text with `OLD => NEW` in it, some of them with a bar between two."""
+    for change in changes.split(" | ") if changes else ():
+        old, new = change.split(" => ")
+        assert text.count(old) == 1, f"{old} stands {text.count(old)} times"
+        text = text.replace(old, new)
+    return text
+
+
+def _expect_said(report: Report, scene: Scene, folder: Path, texts: list[str]) -> None:
+    ended = scene.tool("spfc-explain", "stale", "kept", "example.com=zone", folder=folder)
+    for text in texts:
+        found = text if text in ended.output else ended.output
+        report.expect(f"explain stale: {text}", (0, text), (ended.status, found))
+
+
 def _first_of_each(keys: set[str]) -> Iterator[tuple[Path, list[str], str]]:
     """For each key the first case that has it."""
     module = _runner()
@@ -139,6 +247,6 @@ def _documents() -> Report:
     """The documents have the tables as they stand here."""
     report = Report()
     text = _DOCUMENT.read_text()
-    for head, table in _TABLES:
-        report.expect(f"table of {next(iter(table))}", True, markdown((head, *_HEADS), table.items()) in text)
+    for heads, table in _TABLES:
+        report.expect(f"table of {next(iter(table))}", True, markdown(heads, table.items()) in text)
     return report

@@ -8,12 +8,17 @@ from dataclasses import dataclass
 from pathlib import Path
 
 from scene import ZONES, Report, Scene
+from servers import Server
 
 _UNREAD = ("broken.test", "dname.test")
 """Zones that are served, and that spfc does not read."""
-_MAIN = "tangle several wild wild-alias cname odd odd-two limit-red mx100 deleg taken-q big limit-deep20".split()
+_MAIN = "tangle several wild wild-alias cname odd odd-two limit-red mx100 deleg taken-q big limit-deep20 list".split()
+_LIST = "list"
+"""What the names of cases begin with whose policies have lists of addresses: these come by zone transfer alone."""
 _READING = ("--lookups", "--voids", "--exchanges")
 _NETWORK4 = re.compile(r"(?<![0-9.])(\d+\.\d+\.\d+\.\d+)(/\d+)?")
+_REVERSED4 = re.compile(r"^(?:\*\.)?((?:\d+\.){1,4})(?=[a-z])", re.MULTILINE)
+_REVERSED6 = re.compile(r"^(?:\*\.)?((?:[0-9a-f]\.){4,32})(?=[a-z][a-z])", re.MULTILINE)
 _NETWORK6 = re.compile(r"(?<![0-9A-Za-z:.])(?:ip6:)?([0-9a-fA-F]{0,4}(?::[0-9a-fA-F]{0,4}){2,7})(/\d+)?")
 _FEW = 10
 
@@ -35,7 +40,7 @@ class Case:
 
 def cases(*, are_all: bool) -> list[Case]:
     """The main cases, or all."""
-    files = ["cases", "cases.more"] if are_all else ["cases"]
+    files = ["cases", "cases.lists", "cases.more"] if are_all else ["cases", "cases.lists"]
     lines = [line.split() for file in files for line in Path(__file__).with_name(file).read_text().splitlines()]
     return [Case(name, domain, tuple(options)) for name, domain, *options in lines]
 
@@ -54,7 +59,7 @@ def check(case: Case, scene: Scene) -> Report:
     if gathered.status:
         return report
     text = (folder / "gathered").read_text(encoding="latin-1")
-    for server in scene.others:
+    for server in scene.others if _LIST not in case.name else _with_zones(scene):
         other = scene.gather(case.domain, "--tries", "2", "--time", "2", *case.options, server=server, folder=folder)
         report.expect(f"{case.name}: from port {server.port}", (0, text), (other.status, other.output or other.line))
     zones, file = zone_words(), [".=gathered"]
@@ -67,6 +72,11 @@ def check(case: Case, scene: Scene) -> Report:
     return report
 
 
+def _with_zones(scene: Scene) -> list[Server]:
+    """The other servers that have zones of their own to give away."""
+    return [server for server in scene.others if server.has_zones]
+
+
 def _count(case: Case, scene: Scene) -> int:
     return scene.addresses if case.name in _MAIN else min(scene.addresses, _FEW)
 
@@ -74,7 +84,10 @@ def _count(case: Case, scene: Scene) -> int:
 def _near(seed: str, count: int, text: str) -> Iterator[str]:
     """Addresses at the ends of the networks in a text, in them, beside them, and anywhere."""
     chance = random.Random(seed)
-    networks = {4: list(_networks(_NETWORK4, text)), 6: list(_networks(_NETWORK6, text))}
+    networks = {
+        4: [*_networks(_NETWORK4, text), *_listed4(text)],
+        6: [*_networks(_NETWORK6, text), *_listed6(text)],
+    }
     for _ in range(count):
         family = chance.choice((4, 4, 6))
         bits = 32 if family == 4 else 128
@@ -85,6 +98,22 @@ def _near(seed: str, count: int, text: str) -> Iterator[str]:
             flipped = low ^ (1 << chance.randrange(bits))
             number = chance.choice((low, high, low - 1, high + 1, chance.randint(low, high), flipped)) % (1 << bits)
         yield str(ipaddress.IPv4Address(number) if family == 4 else ipaddress.IPv6Address(number))
+
+
+def _listed4(text: str) -> Iterator[ipaddress.IPv4Network]:
+    """The networks whose names stand in a text, reversed: an address where all four numbers are there."""
+    for found in _REVERSED4.finditer(text):
+        octets = found[1].split(".")[-2::-1]
+        if all(int(octet) < 256 for octet in octets):
+            number = int.from_bytes(bytes([*map(int, octets)]).ljust(4, b"\0"), "big")
+            yield ipaddress.IPv4Network((number, 8 * len(octets)))
+
+
+def _listed6(text: str) -> Iterator[ipaddress.IPv6Network]:
+    """The same for IPv6 and its digits."""
+    for found in _REVERSED6.finditer(text):
+        digits = "".join(found[1].split(".")[::-1])
+        yield ipaddress.IPv6Network((int(digits.ljust(32, "0"), 16), 4 * len(digits)))
 
 
 def _networks(form: re.Pattern[str], text: str) -> Iterator[ipaddress.IPv4Network | ipaddress.IPv6Network]:

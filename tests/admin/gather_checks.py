@@ -1,12 +1,18 @@
 """What spfc-gather does beside the cases: servers that misbehave, statuses, words, and options of its own."""
 
+import sys
 from collections.abc import Callable, Iterator
 from dataclasses import dataclass
 from functools import partial
 from pathlib import Path
 
 import servers
-from scene import ZONES, Ended, Report, Scene
+from scene import TOP, ZONES, Ended, Report, Scene
+
+sys.path.insert(0, str(TOP))
+from admin import names  # noqa: E402
+from admin.resolving import Resolver  # noqa: E402
+from admin.transferring import Transfers  # noqa: E402
 
 
 @dataclass(frozen=True)
@@ -63,7 +69,7 @@ def checks(scene: Scene, bad: servers.Server) -> Iterator[tuple[str, Callable[[]
     """All checks with their names. The server `bad` is the one that misbehaves."""
     for fault in _FAULTS:
         yield f"{fault.domain}.fake.test", partial(_misbehaving, fault, scene, bad)
-    for check in (_unanswered, _words, _held, _twice, _written, _closed, _beside, _dname):
+    for check in (_unanswered, _words, _held, _twice, _written, _closed, _beside, _dname, _lists, _lists_beside):
         yield check.__name__.removeprefix("_"), partial(check, scene)
 
 
@@ -225,4 +231,94 @@ def _closed(scene: Scene) -> Report:
         report.expect(f"closed: {domain}", f"open outside {domain} 0\n", found.output)
     found = scene.spfc("check", "gone.nx.test", "192.0.2.1", ".=gathered", folder=folder)
     report.expect("a name that does not exist", "none norecord gone.nx.test 0\n", found.output)
+    return report
+
+
+_LISTS_REFUSED = {
+    "out.list.test": ["allow.closed.test REVERSE4", "no transfer of closed.test: REFUSED; {} closed.test=FILE"],
+    "lame.list.test": [
+        "lame.list.test REVERSE4",
+        "no transfer of 2.0.192.lame.list.test: NOTAUTH; {} 2.0.192.lame.list.test=FILE",
+    ],
+    "dn.list.test": [
+        "old.dname.test REVERSE4",
+        "a DNAME record at old.dname.test makes an alias for each address, to be written out; {} dname.test=FILE",
+    ],
+}
+"""Of lists that no server gives away the question that is not answered, and why."""
+
+_LISTED = {
+    "192.0.2.10": "pass",
+    "192.0.2.12": "softfail",
+    "192.0.2.13": "softfail",
+    "192.0.2.14": "softfail",
+    "192.0.2.20": "pass",
+    "192.0.2.22": "pass",
+    "192.0.2.23": "softfail",
+    "203.0.113.200": "pass",
+    "198.18.100.76": "pass",
+    "198.18.100.77": "softfail",
+    "198.19.0.1": "pass",
+    "198.19.1.9": "softfail",
+    "198.19.1.8": "softfail",
+    "198.19.2.1": "softfail",
+    "198.51.100.7": "pass",
+    "198.51.100.8": "pass",
+    "198.51.100.9": "softfail",
+    "198.51.100.10": "softfail",
+    "2001:db8::25": "pass",
+    "2001:db8::abcd": "pass",
+    "2001:db8::26": "pass",
+    "2001:db8:1::7": "softfail",
+    "2001:db8:1::8": "softfail",
+    "2001:db8:1:8000::1": "pass",
+    "2001:db8:2f::1": "softfail",
+    "2001:db8:2::1": "pass",
+    "2001:db8:3::1": "pass",
+}
+"""What the policy of list.test says of some addresses, read from its zone by hand."""
+
+
+def _lists(scene: Scene) -> Report:
+    """Lists of senders by address: taken whole, with nothing beside them; or a line that says which file is wanted."""
+    report = Report()
+    folder = scene.folder("lists")
+    scene.gather("list.test", "-o", "gathered", folder=folder)
+    for address, outcome in _LISTED.items():
+        found = scene.spfc("check", "list.test", address, ".=gathered", folder=folder)
+        report.expect(f"listed {address}", f"{outcome}\n", found.output)
+    for domain in ("two.list.test", "x.list.test", "20.2.0.192.link.list.test"):
+        found = scene.spfc("check", domain, "192.0.2.1", ".=gathered", folder=folder)
+        report.expect(f"beside the list: {domain}", f"open outside {domain} 0\n", found.output)
+    report.expect("twice the same", scene.gather("list.test"), scene.gather("list.test", "--jobs", "1"))
+    for domain, (question, why) in _LISTS_REFUSED.items():
+        ended = scene.gather(domain, "--tries", "1", "-o", "refused", folder=folder)
+        line = f"spfc-gather: no answer {question}: {why.format('give the zone as a file:')}"
+        report.expect(f"{domain}: not given", Ended(1, "", line), _first_line(ended))
+        report.expect(f"{domain}: nothing is written", False, (folder / "refused").exists())
+    return report
+
+
+def _lists_beside(scene: Scene) -> Report:
+    """A list whose zone is a file: what leads out of it is gathered. And the name servers of a zone are found."""
+    report = Report()
+    folder = scene.folder("lists-beside")
+    closed = f"closed.test={ZONES / 'closed.test'}"
+    ended = scene.gather("out.list.test", closed, "-o", "gathered", folder=folder)
+    report.expect("beside: gather", Ended(0, "", ""), ended)
+    zones = [closed, *(f"{name}={ZONES / name}" for name in ("list.test", "cname.test", "wild.test"))]
+    words = ["compile", "out.list.test"]
+    found = scene.spfc(*words, closed, ".=gathered", folder=folder)
+    report.expect("beside", scene.spfc(*words, *zones), found)
+    report.expect("beside: records", True, "198.51.100.0/24" in found.output)
+    child = "100.51.198.allow.list.test"
+    words = [f"{child}={ZONES / child}"]
+    scene.gather("list.test", *words, "-o", "child", folder=folder)
+    text = (folder / "child").read_text()
+    report.expect("a child beside", (False, True), ("7.100.51.198" in text, "10.2.0.192" in text))
+    wanted = scene.spfc("compile", "list.test", *words, *zones[1:])
+    report.expect("a child", wanted, scene.spfc("compile", "list.test", *words, ".=child", folder=folder))
+    resolver = Resolver((servers.HOST,), scene.server.port)
+    zone = Transfers(resolver, scene.server.port).holding(names.read("10.2.0.192.allow.list.test"))
+    report.expect("the name servers of the zone", "list.test", names.printed(zone.origin))
     return report

@@ -49,7 +49,10 @@ def _arguments() -> argparse.Namespace:
 def _checks(scene: Scene, bad: servers.Server, *, are_all: bool) -> Iterator[tuple[str, Check]]:
     """The checks with their names."""
     yield "nightly", partial(nightly_checks.check, scene)
+    yield "nightly-kept", partial(nightly_checks.kept, scene)
+    yield "nightly-list", partial(nightly_checks.listed, scene)
     yield "walk", partial(nightly_checks.walk, scene)
+    yield "by-hand", partial(nightly_checks.by_hand, scene)
     yield from explain_checks.checks(scene)
     yield from gather_checks.checks(scene, bad)
     yield from package_checks.checks(scene)

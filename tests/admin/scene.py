@@ -60,10 +60,6 @@ class Scene:
         """Runs the program."""
         return run([str(self.program), *words], folder or self.scratch, {})
 
-    def has(self, command: str, *words: str) -> bool:
-        """Whether the program has this command, which takes these words in front of zones."""
-        return self.spfc(command, *words, ".=/dev/null").status != 4
-
     def folder(self, name: str) -> Path:
         """A new folder of this name."""
         folder = self.scratch / name

@@ -1,0 +1,119 @@
+"""Has whole zones transferred (RFC 5936), each once."""
+
+from collections.abc import Iterable
+
+import dns.exception
+import dns.query
+import dns.rcode
+import dns.rdataclass
+import dns.rdatatype
+import dns.rrset
+import dns.xfr
+import dns.zone
+from dns.name import Name
+
+from admin import names
+from admin.answers import Failure
+from admin.replies import has_alias
+from admin.resolving import Resolver
+from admin.zone_contents import Contents, contents
+
+_PORT = 53
+_PATIENCE = 60
+"""As many times the seconds of a reply a transfer may take as a whole."""
+_FINAL = ("REFUSED", "NOTAUTH", "NOTIMP")
+"""Replies of servers that need not be asked anew."""
+
+
+class NotGiven(Exception):
+    """What stands in a zone cannot be had from its servers: a person has to give its file."""
+
+    def __init__(self, origin: Name, why: str) -> None:
+        super().__init__(f"{why}; give the zone as a file: {names.printed(origin)}=FILE")
+
+
+class Transfers:
+    """The zones that were transferred, by the servers that a person named, or else by the name servers of each zone."""
+
+    def __init__(self, resolver: Resolver, port: int = _PORT) -> None:
+        self._resolver = resolver
+        self._port = resolver.port if resolver.are_named else port
+        self._zones: dict[Name, Contents | NotGiven] = {}
+
+    def holding(self, name: Name) -> Contents:
+        """The zone that holds a name."""
+        return self.zone(self._origin(name))
+
+    def zone(self, origin: Name) -> Contents:
+        """The zone of this origin."""
+        if origin not in self._zones:
+            self._zones[origin] = self._transferred(origin)
+        zone = self._zones[origin]
+        if isinstance(zone, NotGiven):
+            raise zone
+        return zone
+
+    def _origin(self, name: Name) -> Name:
+        """The origin of the zone that holds a name, by the SOA record that a reply names.
+
+        The reply for an alias may name that of another zone. So the name above it is asked, which is in the same zone.
+        """
+        for upper in names.with_ancestors(name):
+            reply = self._resolver.reply(upper, "SOA")
+            if isinstance(reply, Failure):
+                raise NotGiven(name, f"no server says which zone it is in: {reply.why}")
+            if has_alias(reply, upper):
+                continue
+            owners = [records.name.canonicalize() for records in (*reply.answer, *reply.authority) if _is_soa(records)]
+            found = [owner for owner in owners if upper.is_subdomain(owner)]
+            if not found:
+                raise NotGiven(name, "no server says which zone it is in")
+            return max(found, key=len)
+        raise NotGiven(name, "it is in no zone")
+
+    def _transferred(self, origin: Name) -> Contents | NotGiven:
+        """Asks each server, and those anew that did not refuse."""
+        why = "no name server of it is known"
+        servers = list(self._servers(origin))
+        for _ in range(self._resolver.tries):
+            for server in list(servers):
+                zone = self._transfer(origin, server)
+                if isinstance(zone, Contents):
+                    return zone
+                why = zone.why
+                if why in _FINAL:
+                    servers.remove(server)
+        return NotGiven(origin, f"no transfer of {names.printed(origin)}: {why}")
+
+    def _transfer(self, origin: Name, server: str) -> Contents | Failure:
+        """What one server gives away, or why it does not."""
+        zone = dns.zone.Zone(origin, relativize=False)
+        seconds = self._resolver.seconds
+        try:
+            dns.query.inbound_xfr(server, zone, port=self._port, timeout=seconds, lifetime=seconds * _PATIENCE)
+        except dns.xfr.TransferError as error:
+            return Failure(dns.rcode.to_text(error.rcode))
+        except (dns.exception.Timeout, OSError, EOFError):
+            return Failure("no reply")
+        except dns.exception.DNSException:
+            return Failure("malformed reply")
+        return contents(zone, origin)
+
+    def _servers(self, origin: Name) -> Iterable[str]:
+        """The addresses that are asked for the zone."""
+        if self._resolver.are_named:
+            return self._resolver.servers
+        hosts = [names.read(host) for host in self._records(origin, "NS")]
+        return dict.fromkeys(one for host in hosts for kind in ("A", "AAAA") for one in self._records(host, kind))
+
+    def _records(self, name: Name, kind: str) -> list[str]:
+        """The records of a kind, in presentation form."""
+        reply = self._resolver.reply(name, kind)
+        if isinstance(reply, Failure):
+            return []
+        wanted = dns.rdatatype.from_text(kind)
+        return [record.to_text() for records in reply.answer if records.rdtype == wanted for record in records]
+
+
+def _is_soa(records: dns.rrset.RRset) -> bool:
+    return records.rdtype == dns.rdatatype.SOA and records.rdclass == dns.rdataclass.IN
