@@ -1,5 +1,0 @@
-use Rattle.std.proofs.Common.{length}
-use Rattle.zone_answers.proofs.order.+key_from.Given as goal
-
-abbrev pub decreases-key_from : goal.decreases-key_from
-decreases-key_from l = length l.name.now
