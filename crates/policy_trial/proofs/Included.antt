@@ -8,8 +8,6 @@ use Rattle.spf_macros.specs.declared.piece.Piece.{Piece}
 use Rattle.spf_grammar.specs.Flat.{covers, first}
 use Rattle.spf_grammar.specs.Grammar.{SpellsPolicy}
 use Rattle.spf_grammar.specs.declared.flat.FlatTerm.{FlatTerm}
-use Rattle.spf_grammar.specs.declared.flat.Net.{Net}
-use Rattle.spf_grammar.specs.declared.flat.Net.TheVariants as net
 use Rattle.spf_grammar.specs.declared.policy.Mechanism.TheVariants.{Include}
 use Rattle.spf_grammar.specs.declared.policy.Term.{Term}
 use Rattle.spf_grammar.specs.declared.policy.Term.TheVariants.{Directive}
@@ -23,7 +21,8 @@ use Rattle.spf_model.specs.declared.outcome.Outcome.TheVariants.{Is, Perm}
 use Rattle.spf_model.specs.Run.{Run, Answering, EndsWith, then_do}
 use Rattle.spf_model.specs.Judging.{Labels, Site, Sub, at, name_of, judge, go_if, is_pass, judged_by, with_name, with_target, with_text, with_verdict}
 use Rattle.spf_model.specs.Check.{check, default, evaluated, redirect_from, term_after, tried, unless_matched, with_answer, with_texts}
-use Rattle.spf_model.specs.Chains.{LeadsOn, directives_of, mechanism_of}
+use Rattle.spf_model.specs.Chains.{LeadsOn, directives_of}
+use Rattle.spf_model.proofs.Chains.{judge_flat, redirect_none}
 use Rattle.spf_model.proofs.RunLaws.{ends_after}
 use Rattle.published_records.specs.Chain.{Holds}
 use Rattle.policy_trial.specs.Verdicts.{first_included}
@@ -48,12 +47,6 @@ record_ends zones limits a depth domain label next labels text terms counts afte
 
 -- ---- flat terms
 
-judge_flat : (site : Site) (a : Address) (sub : Sub) (t : ℕ) (n : Net) (counts : Counts) (go : Bool → Counts → Run)
-    → judge site a sub t (mechanism_of n) counts go ≡ go (covers n a) counts
-judge_flat site a sub t (net.V4 p) counts go = refl
-judge_flat site a sub t (net.V6 p) counts go = refl
-judge_flat site a sub t net.All counts go = refl
-
 -- they give the first verdict, and neutral where none of them has the address
 flat_ends : (zones : Answering) (site : Site) (a : Address) (sub : Sub) (t : ℕ) (terms : List FlatTerm) (counts : Counts) (last : Counts → Run)
     → EndsWith zones (last counts) (Is Neutral) counts → EndsWith zones (tried (judge site a sub) t (directives_of terms []) counts last) (Is (first terms a)) counts
@@ -70,10 +63,6 @@ flat_ends zones site a sub t (term ∷ terms) counts last ends =
     by_test later true = (refl, refl)
     by_test later false = later
 
-flat_redirect : (t : ℕ) (terms : List FlatTerm) → redirect_from t (directives_of terms []) ≡ None
-flat_redirect t [] = refl
-flat_redirect t (term ∷ terms) = flat_redirect (term_after t) terms
-
 -- a record of flat terms gives the verdict of the first that has the address, and counts nothing
 flat_record_ends : (zones : Answering) (limits : Limits) (a : Address) (depth : ℕ) (domain : List ℕ) (label next : List ℕ) (labels : Labels) (text : List ℕ) (terms : List FlatTerm) (counts : Counts)
     → Holds zones (label ∷ next ∷ labels) text → SpellsPolicy text (record { terms = directives_of terms [] })
@@ -81,7 +70,7 @@ flat_record_ends : (zones : Answering) (limits : Limits) (a : Address) (depth : 
 flat_record_ends zones limits a depth domain label next labels text terms counts holds spells =
     record_ends zones limits a depth domain label next labels text (directives_of terms []) counts counts (Is (first terms a)) holds spells
     (flat_ends zones site a (check limits a depth) 1 terms counts (λ more. default site (check limits a depth) more (redirect_from 1 (directives_of terms [])))
-    (subst (λ redirect. EndsWith zones (default site (check limits a depth) counts redirect) (Is Neutral) counts) (sym (flat_redirect 1 terms)) (refl, refl)))
+    (subst (λ redirect. EndsWith zones (default site (check limits a depth) counts redirect) (Is Neutral) counts) (sym (redirect_none 1 terms)) (refl, refl)))
   where
     site : Site
     site = record { limits = limits; family = family_of a; domain = domain; name = label ∷ next ∷ labels }
@@ -188,7 +177,7 @@ includes_come zones limits a depth domain name t (spec ∷ specs) (terms ∷ lis
     )
 
 included_redirect : (t : ℕ) (specs : List (List Piece)) (behind : List FlatTerm) → redirect_from t (includes_of specs (directives_of behind [])) ≡ None
-included_redirect t [] behind = flat_redirect t behind
+included_redirect t [] behind = redirect_none t behind
 included_redirect t (spec ∷ specs) behind = included_redirect (term_after t) specs behind
 
 -- a record that includes others, at most as many as lookups are left

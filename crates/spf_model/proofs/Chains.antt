@@ -28,7 +28,7 @@ abbrev pub Comes : Answering → Run → Verdict → (most voids : ℕ) → Type
 Comes zones run verdict most voids = (after : Counts) × EndsWith zones run (Is verdict) after × (after.lookups < most) × (after.voids ≡ voids)
 
 -- a network goes on with whether it covers the address
-judge_flat : (site : Site) (a : Address) (sub : Sub) (t : ℕ) (n : Net) (counts : Counts) (go : Bool → Counts → Run)
+pub judge_flat : (site : Site) (a : Address) (sub : Sub) (t : ℕ) (n : Net) (counts : Counts) (go : Bool → Counts → Run)
     → judge site a sub t (mechanism_of n) counts go ≡ go (covers n a) counts
 judge_flat site a sub t (net.V4 p) counts go = refl
 judge_flat site a sub t (net.V6 p) counts go = refl
@@ -58,7 +58,7 @@ redirect_found : (t : ℕ) (terms : List FlatTerm) (spec : List Piece) → (n : 
 redirect_found t [] spec = (t, refl)
 redirect_found t (term ∷ terms) spec = redirect_found (term_after t) terms spec
 
-redirect_none : (t : ℕ) (terms : List FlatTerm) → redirect_from t (directives_of terms []) ≡ None
+pub redirect_none : (t : ℕ) (terms : List FlatTerm) → redirect_from t (directives_of terms []) ≡ None
 redirect_none t [] = refl
 redirect_none t (term ∷ terms) = redirect_none (term_after t) terms
 
