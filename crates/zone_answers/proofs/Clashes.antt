@@ -18,13 +18,14 @@ use Rattle.dns_name.proofs.Names.{same_name_decides}
 use Rattle.master_reader.specs.declared.record.Body.{Body}
 use Rattle.master_reader.specs.declared.record.Body.TheVariants.{A, Aaaa, Mx, Txt, Cname, Ns, Other}
 use Rattle.master_reader.specs.declared.record.Record.{Record}
+use Rattle.zone_answers.specs.declared.node.Chosen.TheVariants.{Every}
 use Rattle.zone_answers.specs.declared.node.Node.{Node}
 use Rattle.zone_answers.specs.Zone.{Zone}
 use Rattle.zone_answers.specs.Same.{same_name}
 use Rattle.zone_answers.specs.Answers.{bodies_at, target_of}
 use Rattle.zone_answers.specs.Lend.{bodies_clash, has_clash, IsLeastClash, IsLesser}
-use Rattle.zone_answers.specs.Index.{body_at, bodies_at_places, first_of, has_owner, places_from, summary, IsIndex}
-use Rattle.zone_answers.proofs.Places.{bodies_by_places, bodies_more, bodies_behind, bodies_all}
+use Rattle.zone_answers.specs.Index.{body_at, bodies_at_places, first_of, has_owner, places_of, summary, IsIndex}
+use Rattle.zone_answers.proofs.Places.{all_by_places, bodies_more, bodies_behind, bodies_all}
 
 -- ---- bodies of one owner
 
@@ -94,12 +95,12 @@ first_decides bodies target e = by (list_any (bodies_clash (Cname target)) bodie
 
 -- ---- over the places of a name
 
-pub clash_found : (zone : Zone) (name target : List (List ℕ)) (places : List ℕ) (i : ℕ) (body : Body) → Some target ≡ first_of (filter_map target_of (bodies_at zone name)) → places ≡ places_from 0 zone.records name → i < length places
+pub clash_found : (zone : Zone) (name target : List (List ℕ)) (places : List ℕ) (i : ℕ) (body : Body) → Some target ≡ first_of (filter_map target_of (bodies_at zone name)) → places ≡ places_of Every 0 zone.records name → i < length places
     → Some body ≡ body_at zone.records (get_or places i 0) → bodies_clash (Cname target) body ≡ true → true ≡ has_clash zone name
 clash_found zone name target places i body first is lt e h =
     let p : Body → Bool = bodies_clash (Cname target) in
     sym (sym (first_decides (bodies_at zone name) target first)
-    ∙ ap (list_any p) (sym (bodies_by_places zone places name is) ∙ bodies_behind zone.records places (i + 1))
+    ∙ ap (list_any p) (sym (all_by_places zone places name is) ∙ bodies_behind zone.records places (i + 1))
     ∙ list_any-append p (bodies_at_places zone.records (take (i + 1) places)) (bodies_at_places zone.records (drop (i + 1) places))
     ∙ ap (λ b. b || list_any p (bodies_at_places zone.records (drop (i + 1) places)))
     (ap (list_any p) (bodies_more zone.records places i (Some body) lt e) ∙ list_any-append p (bodies_at_places zone.records (take i places)) (body ∷ [])
@@ -113,11 +114,11 @@ clash_more records target places i o lt e none h =
     ∙ list_any-append (bodies_clash (Cname target)) (bodies_at_places records (take i places)) (option_to_list o)
     ∙ ap₂ (λ (a b : Bool). a || b) h none
 
-pub no_clash : (zone : Zone) (name target : List (List ℕ)) (places : List ℕ) (i : ℕ) → Some target ≡ first_of (filter_map target_of (bodies_at zone name)) → places ≡ places_from 0 zone.records name → length places ≤ i
+pub no_clash : (zone : Zone) (name target : List (List ℕ)) (places : List ℕ) (i : ℕ) → Some target ≡ first_of (filter_map target_of (bodies_at zone name)) → places ≡ places_of Every 0 zone.records name → length places ≤ i
     → list_any (bodies_clash (Cname target)) (bodies_at_places zone.records (take i places)) ≡ false → false ≡ has_clash zone name
 no_clash zone name target places i first is le h =
     sym (sym (first_decides (bodies_at zone name) target first)
-    ∙ ap (list_any (bodies_clash (Cname target))) (sym (bodies_by_places zone places name is) ∙ sym (bodies_all zone.records places i le)) ∙ h)
+    ∙ ap (list_any (bodies_clash (Cname target))) (sym (all_by_places zone places name is) ∙ sym (bodies_all zone.records places i le)) ∙ h)
 
 -- ---- the lesser of two names
 

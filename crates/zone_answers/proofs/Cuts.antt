@@ -6,11 +6,12 @@ use Rattle.dns_name.specs.Wire.{wire_form}
 use Rattle.dns_name.specs.Name.{IsName, IsUnder, is_under, parent_of, child_of}
 use Rattle.dns_name.proofs.Names.{under_decides, under_itself, parent_under, child_ok, tail_name}
 use Rattle.master_reader.specs.declared.record.Record.{Record}
+use Rattle.zone_answers.specs.declared.node.Chosen.{Chosen}
 use Rattle.zone_answers.specs.declared.node.Node.{Node}
 use Rattle.zone_answers.specs.Zone.{Zone}
 use Rattle.zone_answers.specs.Same.{same_name}
 use Rattle.zone_answers.specs.Answers.{is_delegation, is_cut_off, name_exists, closest_above}
-use Rattle.zone_answers.specs.Index.{places_from, has_delegation, has_owner, summary, IsIndex}
+use Rattle.zone_answers.specs.Index.{places_of, has_delegation, has_owner, summary, IsIndex}
 use Rattle.zone_answers.proofs.Nodes.{at, same_true, same_self, same_not}
 use Rattle.zone_answers.proofs.Indexes.{no_place}
 
@@ -20,9 +21,9 @@ not_there : (h : Bool) (node : Node) → None ≡ (if h then Some node else None
 not_there true node e = absurd cc
 not_there false node e = refl
 
-pub none_here : (records : List Record) (nodes : List (List (List ℕ) × Node)) (name : List (List ℕ)) → IsIndex records nodes → None ≡ at nodes name
-    → (places_from 0 records name ≡ []) × (has_delegation records name ≡ false)
-none_here records nodes name index none = no_place 0 records name (not_there (has_owner records name) (summary records name) (none ∙ index.at name))
+pub none_here : (chosen : Chosen) (records : List Record) (nodes : List (List (List ℕ) × Node)) (name : List (List ℕ)) → IsIndex records nodes → None ≡ at nodes name
+    → (places_of chosen 0 records name ≡ []) × (has_delegation records name ≡ false)
+none_here chosen records nodes name index none = no_place chosen 0 records name (not_there (has_owner records name) (summary records name) (none ∙ index.at name))
 
 -- ---- tests over lists
 

@@ -1,20 +1,26 @@
 -- The bodies of a name's records, by their places.
-use Rattle.std.proofs.Common.{◌≡◌, ℕ, suc, ◌+◌, ◌<◌, ◌≤◌, Bool, true, false, cond, List, [], ◌∷◌, ◌++◌, length, map, filter, filter_map, take, drop, get_or, option_map, Option, None, Some, refl, sym, ap, ap₂, ◌∙◌, arith, if◌then◌else◌, append_assoc, length-append, take-append-drop}
+use Rattle.std.proofs.Common.{◌≡◌, ℕ, suc, ◌+◌, ◌<◌, ◌≤◌, Bool, true, false, cond, ◌&&◌, List, [], ◌∷◌, ◌++◌, length, map, filter, filter_map, take, drop, get_or, slice_get, option_map, Option, None, Some, refl, sym, ap, ap₂, ◌∙◌, arith, if◌then◌else◌, append_assoc, length-append, take-append-drop}
 use Rattle.std.specs.Option.{option_to_list}
-use Rattle.std.proofs.lemmas.List.{take_all, append-nil, take_more}
-use Rattle.std.proofs.lemmas.List.Elements.{filter_map-append, filter-append}
+use Rattle.std.proofs.lemmas.List.{take_all, take_more}
+use Rattle.std.proofs.lemmas.List.Elements.{filter_map-append}
 use Rattle.std.proofs.lemmas.Option.{slice_get-get_or}
 use Rattle.std.proofs.Math.Seq.{get_or-append_seam}
 use Rattle.master_reader.specs.declared.record.Body.{Body}
 use Rattle.master_reader.specs.declared.record.Body.TheVariants.{A, Aaaa, Mx, Txt, Cname, Ns, Other}
 use Rattle.master_reader.specs.declared.record.Record.{Record}
+use Rattle.zone_answers.specs.declared.answer.QKind.{QKind}
+use Rattle.zone_answers.specs.declared.node.Chosen.{Chosen}
+use Rattle.zone_answers.specs.declared.node.Chosen.TheVariants.{Every, Asked, Aliases}
 use Rattle.zone_answers.specs.Zone.{Zone}
 use Rattle.zone_answers.specs.Same.{same_name}
-use Rattle.zone_answers.specs.Answers.{bodies_at, target_of}
-use Rattle.zone_answers.specs.Index.{places_from, body_at, bodies_at_places, first_of, target_in}
+use Rattle.zone_answers.specs.Answers.{bodies_at, is_of, target_of}
+use Rattle.zone_answers.specs.Index.{is_chosen, places_of, body_at, bodies_at_places, first_of, target_in}
 
-abbrev own_bodies : List Record → List (List ℕ) → List Body
-own_bodies records name = map (λ r. r.body) (filter (λ r. same_name r.owner name) records)
+abbrev owned : List Record → List (List ℕ) → List Record
+owned records name = filter (λ r. same_name r.owner name) records
+
+abbrev own_bodies : Chosen → List Record → List (List ℕ) → List Body
+own_bodies chosen records name = filter (is_chosen chosen) (map (λ r. r.body) (owned records name))
 
 at_seam : (whole front : List Record) (r : Record) (back : List Record) (place : ℕ) → whole ≡ front ++ r ∷ back → place ≡ length front → body_at whole place ≡ Some r.body
 at_seam whole front r back place w p =
@@ -30,21 +36,29 @@ place_one whole place body true rest bodies h e = ap (λ o. option_cons o (bodie
     option_cons (Some b) l = b ∷ l
     option_cons None l = l
 
-filter_one : (r : Record) (records : List Record) (name : List (List ℕ)) (t : Bool) → same_name r.owner name ≡ t → (if t then r.body ∷ own_bodies records name else own_bodies records name) ≡ own_bodies (r ∷ records) name
-filter_one r records name true e = sym (ap (λ (b : Bool). map (λ (s : Record). s.body) (cond b (r ∷ filter (λ s. same_name s.owner name) records) (filter (λ s. same_name s.owner name) records))) e)
-filter_one r records name false e = sym (ap (λ (b : Bool). map (λ (s : Record). s.body) (cond b (r ∷ filter (λ s. same_name s.owner name) records) (filter (λ s. same_name s.owner name) records))) e)
+filter_one : (chosen : Chosen) (r : Record) (records : List Record) (name : List (List ℕ)) (t : Bool)
+    → (if t && is_chosen chosen r.body then r.body ∷ own_bodies chosen records name else own_bodies chosen records name) ≡ filter (is_chosen chosen) (map (λ s. s.body) (cond t (r ∷ owned records name) (owned records name)))
+filter_one chosen r records name true = refl
+filter_one chosen r records name false = refl
 
-places_bodies : (whole front back : List Record) (place : ℕ) (name : List (List ℕ)) → whole ≡ front ++ back → place ≡ length front → bodies_at_places whole (places_from place back name) ≡ own_bodies back name
-places_bodies whole front [] place name w p = refl
-places_bodies whole front (r ∷ back) place name w p =
-    place_one whole place r.body (same_name r.owner name) (places_from (suc place) back name) (own_bodies back name)
+places_bodies : (chosen : Chosen) (whole front back : List Record) (place : ℕ) (name : List (List ℕ)) → whole ≡ front ++ back → place ≡ length front → bodies_at_places whole (places_of chosen place back name) ≡ own_bodies chosen back name
+places_bodies chosen whole front [] place name w p = refl
+places_bodies chosen whole front (r ∷ back) place name w p =
+    place_one whole place r.body (same_name r.owner name && is_chosen chosen r.body) (places_of chosen (suc place) back name) (own_bodies chosen back name)
     (at_seam whole front r back place w p)
-    (places_bodies whole (front ++ r ∷ []) back (suc place) name (w ∙ sym (append_assoc front (r ∷ []) back)) (omega (arith, p, length-append front (r ∷ []))))
-    ∙ filter_one r back name (same_name r.owner name) refl
+    (places_bodies chosen whole (front ++ r ∷ []) back (suc place) name (w ∙ sym (append_assoc front (r ∷ []) back)) (omega (arith, p, length-append front (r ∷ []))))
+    ∙ filter_one chosen r back name (same_name r.owner name)
 
--- the bodies at a name's places are those of its records
-pub bodies_by_places : (zone : Zone) (places : List ℕ) (name : List (List ℕ)) → places ≡ places_from 0 zone.records name → bodies_at_places zone.records places ≡ bodies_at zone name
-bodies_by_places zone places name e = ap (bodies_at_places zone.records) e ∙ places_bodies zone.records [] zone.records 0 name refl refl
+-- the bodies at the chosen places of a name are those of its records that are chosen
+pub bodies_by_places : (chosen : Chosen) (zone : Zone) (places : List ℕ) (name : List (List ℕ)) → places ≡ places_of chosen 0 zone.records name → bodies_at_places zone.records places ≡ filter (is_chosen chosen) (bodies_at zone name)
+bodies_by_places chosen zone places name e = ap (bodies_at_places zone.records) e ∙ places_bodies chosen zone.records [] zone.records 0 name refl refl
+
+every_body : (bodies : List Body) → filter (is_chosen Every) bodies ≡ bodies
+every_body [] = refl
+every_body (b ∷ bodies) = ap (λ (l : List Body). b ∷ l) (every_body bodies)
+
+pub all_by_places : (zone : Zone) (places : List ℕ) (name : List (List ℕ)) → places ≡ places_of Every 0 zone.records name → bodies_at_places zone.records places ≡ bodies_at zone name
+all_by_places zone places name e = bodies_by_places Every zone places name e ∙ every_body (bodies_at zone name)
 
 -- one more place
 one_body : (o : Option Body) → filter_map (λ (x : Option Body). x) (o ∷ []) ≡ option_to_list o
@@ -66,60 +80,42 @@ bodies_behind records places i = ap (bodies_at_places records) (sym (take-append
 
 -- ---- the first alias
 
-targets_one : (o : Option Body) → filter_map target_of (option_to_list o) ≡ option_to_list (target_in o)
-targets_one None = refl
-targets_one (Some (A n)) = refl
-targets_one (Some (Aaaa n)) = refl
-targets_one (Some (Mx p x)) = refl
-targets_one (Some (Txt s)) = refl
-targets_one (Some (Cname x)) = refl
-targets_one (Some (Ns x)) = refl
-targets_one (Some Other) = refl
+abbrev target_at : List Record → Option ℕ → Option (List (List ℕ))
+target_at records None = None
+target_at records (Some place) = target_in (body_at records place)
 
-targets_more : (records : List Record) (places : List ℕ) (i : ℕ) (o : Option (List (List ℕ))) → i < length places → o ≡ target_in (body_at records (get_or places i 0))
-    → filter_map target_of (bodies_at_places records (take i places)) ≡ [] → filter_map target_of (bodies_at_places records (take (i + 1) places)) ≡ option_to_list o
-targets_more records places i o lt e h =
-    let body : Option Body = body_at records (get_or places i 0) in
-    ap (filter_map target_of) (bodies_more records places i body lt refl)
-    ∙ filter_map-append target_of (bodies_at_places records (take i places)) (option_to_list body)
-    ∙ ap₂ (λ (x y : List (List (List ℕ))). x ++ y) h (targets_one body ∙ ap option_to_list (sym e))
+alias_one : (whole rest : List Record) (place : ℕ) (places : List ℕ) (t : Bool) (body : Body) → body_at whole place ≡ Some body
+    → target_at whole (slice_get places 0) ≡ first_of (filter_map target_of (map (λ s. s.body) rest))
+    → target_at whole (slice_get (if t && is_chosen Aliases body then place ∷ places else places) 0) ≡ first_of (filter_map target_of (cond t (body ∷ map (λ s. s.body) rest) (map (λ s. s.body) rest)))
+alias_one whole rest place places false body e h = h
+alias_one whole rest place places true (A n) e h = h
+alias_one whole rest place places true (Aaaa n) e h = h
+alias_one whole rest place places true (Mx p x) e h = h
+alias_one whole rest place places true (Txt s) e h = h
+alias_one whole rest place places true (Cname x) e h = ap target_in e
+alias_one whole rest place places true (Ns x) e h = h
+alias_one whole rest place places true Other e h = h
 
-pub alias_more : (records : List Record) (places : List ℕ) (i : ℕ) → i < length places → None ≡ target_in (body_at records (get_or places i 0))
-    → filter_map target_of (bodies_at_places records (take i places)) ≡ [] → filter_map target_of (bodies_at_places records (take (i + 1) places)) ≡ []
-alias_more records places i lt e h = targets_more records places i None lt e h
+bodies_cond : (r : Record) (rest : List Record) (t : Bool) → cond t (r.body ∷ map (λ s. s.body) rest) (map (λ s. s.body) rest) ≡ map (λ (s : Record). s.body) (cond t (r ∷ rest) rest)
+bodies_cond r rest true = refl
+bodies_cond r rest false = refl
 
-pub alias_found : (zone : Zone) (name : List (List ℕ)) (places : List ℕ) (i : ℕ) (target : List (List ℕ)) → places ≡ places_from 0 zone.records name → i < length places
-    → Some target ≡ target_in (body_at zone.records (get_or places i 0))
-    → filter_map target_of (bodies_at_places zone.records (take i places)) ≡ [] → Some target ≡ first_of (filter_map target_of (bodies_at zone name))
-alias_found zone name places i target is lt e h =
-    sym (ap (λ l. first_of (filter_map target_of l)) (sym (bodies_by_places zone places name is) ∙ bodies_behind zone.records places (i + 1))
-    ∙ ap first_of (filter_map-append target_of (bodies_at_places zone.records (take (i + 1) places)) (bodies_at_places zone.records (drop (i + 1) places)))
-    ∙ ap (λ (l : List (List (List ℕ))). first_of (l ++ filter_map target_of (bodies_at_places zone.records (drop (i + 1) places)))) (targets_more zone.records places i (Some target) lt e h))
+alias_first : (whole front back : List Record) (place : ℕ) (name : List (List ℕ)) → whole ≡ front ++ back → place ≡ length front
+    → target_at whole (slice_get (places_of Aliases place back name) 0) ≡ first_of (filter_map target_of (map (λ s. s.body) (owned back name)))
+alias_first whole front [] place name w p = refl
+alias_first whole front (r ∷ back) place name w p =
+    alias_one whole (owned back name) place (places_of Aliases (suc place) back name) (same_name r.owner name) r.body (at_seam whole front r back place w p)
+    (alias_first whole (front ++ r ∷ []) back (suc place) name (w ∙ sym (append_assoc front (r ∷ []) back)) (omega (arith, p, length-append front (r ∷ []))))
+    ∙ ap (λ (l : List Body). first_of (filter_map target_of l)) (bodies_cond r (owned back name) (same_name r.owner name))
 
-pub alias_none : (zone : Zone) (name : List (List ℕ)) (places : List ℕ) (i : ℕ) → places ≡ places_from 0 zone.records name → length places ≤ i
-    → filter_map target_of (bodies_at_places zone.records (take i places)) ≡ [] → None ≡ first_of (filter_map target_of (bodies_at zone name))
-alias_none zone name places i is le h =
-    sym (ap (λ l. first_of (filter_map target_of l)) (sym (bodies_by_places zone places name is) ∙ sym (bodies_all zone.records places i le)) ∙ ap first_of h)
+-- the alias at a name is the target at the first place of its aliases
+pub alias_at : (zone : Zone) (places : List ℕ) (name : List (List ℕ)) (first : Option ℕ) → places ≡ places_of Aliases 0 zone.records name → first ≡ slice_get places 0
+    → target_at zone.records first ≡ first_of (filter_map target_of (bodies_at zone name))
+alias_at zone places name first is e =
+    ap (target_at zone.records) (e ∙ ap (λ (l : List ℕ). slice_get l 0) is) ∙ alias_first zone.records [] zone.records 0 name refl refl
 
 -- ---- the bodies of a kind
 
-found_one : (test : Body → Bool) (body : Body) (t : Bool) → test body ≡ t → filter test (body ∷ []) ≡ (if t then body ∷ [] else [])
-found_one test body t e = ap (λ b. cond b (body ∷ []) []) e
-
-pub found_some : (test : Body → Bool) (records : List Record) (places : List ℕ) (i : ℕ) (body : Body) (t : Bool) (found more : List Body) → i < length places
-    → Some body ≡ body_at records (get_or places i 0) → test body ≡ t
-    → more ≡ found ++ (if t then body ∷ [] else [])
-    → found ≡ filter test (bodies_at_places records (take i places)) → more ≡ filter test (bodies_at_places records (take (i + 1) places))
-found_some test records places i body t found more lt e is m h =
-    m ∙ ap₂ (λ (x y : List Body). x ++ y) h (sym (found_one test body t is))
-    ∙ sym (ap (filter test) (bodies_more records places i (Some body) lt e) ∙ filter-append test (bodies_at_places records (take i places)) (body ∷ []))
-
-pub found_none : (test : Body → Bool) (records : List Record) (places : List ℕ) (i : ℕ) (found : List Body) → i < length places
-    → None ≡ body_at records (get_or places i 0)
-    → found ≡ filter test (bodies_at_places records (take i places)) → found ≡ filter test (bodies_at_places records (take (i + 1) places))
-found_none test records places i found lt e h =
-    h ∙ sym (ap (filter test) (bodies_more records places i None lt e ∙ append-nil (bodies_at_places records (take i places))))
-
-pub found_all : (test : Body → Bool) (zone : Zone) (name : List (List ℕ)) (places : List ℕ) (i : ℕ) (found : List Body) → places ≡ places_from 0 zone.records name → length places ≤ i
-    → found ≡ filter test (bodies_at_places zone.records (take i places)) → found ≡ filter test (bodies_at zone name)
-found_all test zone name places i found is le h = h ∙ ap (filter test) (bodies_all zone.records places i le ∙ bodies_by_places zone places name is)
+pub found_all : (kind : QKind) (zone : Zone) (name : List (List ℕ)) (places : List ℕ) (i : ℕ) (found : List Body) → places ≡ places_of (Asked kind) 0 zone.records name → length places ≤ i
+    → found ≡ bodies_at_places zone.records (take i places) → found ≡ filter (is_of kind) (bodies_at zone name)
+found_all kind zone name places i found is le h = h ∙ bodies_all zone.records places i le ∙ bodies_by_places (Asked kind) zone places name is

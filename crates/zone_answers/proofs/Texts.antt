@@ -1,19 +1,22 @@
 -- The joined strings of TXT records.
-use Rattle.std.proofs.Common.{◌≡◌, ℕ, zero, suc, ◌+◌, ◌<◌, ◌≤◌, Bool, true, false, List, [], ◌∷◌, ◌++◌, length, take, drop, get_or, sum_by, None, Some, refl, sym, ap, ap₂, subst, ◌∙◌, arith, length-append, append_assoc, take-append-drop, if◌then◌else◌}
+use Rattle.std.proofs.Common.{◌≡◌, ℕ, zero, suc, ◌+◌, ◌<◌, ◌≤◌, Bool, true, false, cond, ◌&&◌, List, [], ◌∷◌, ◌++◌, length, take, drop, get_or, filter, sum_by, None, Some, refl, sym, ap, ap₂, subst, ◌∙◌, arith, length-append, append_assoc, take-append-drop, if◌then◌else◌}
 use Rattle.std.specs.List.{concat}
 use Rattle.std.proofs.lemmas.List.{take_all, take_more, append-nil}
 use Rattle.std.proofs.lemmas.List.Sums.{sum_by-append, sum_by-cons, sum_by-take-le}
 use Rattle.std.proofs.lemmas.List.Folds.{concat-append}
 use Rattle.spf_text.specs.Version.{is_spf_text}
 use Rattle.master_reader.specs.declared.record.Body.{Body}
-use Rattle.master_reader.specs.declared.record.Body.TheVariants.{Txt}
+use Rattle.master_reader.specs.declared.record.Body.TheVariants.{A, Aaaa, Mx, Txt, Cname, Ns, Other}
 use Rattle.master_reader.specs.declared.record.Record.{Record}
+use Rattle.zone_answers.specs.declared.answer.QKind.TheVariants as kinds
+use Rattle.zone_answers.specs.declared.node.Chosen.{Chosen}
+use Rattle.zone_answers.specs.declared.node.Chosen.TheVariants.{Asked}
 use Rattle.zone_answers.specs.Zone.{Zone}
 use Rattle.zone_answers.specs.Same.{same_name}
-use Rattle.zone_answers.specs.Answers.{bodies_at}
+use Rattle.zone_answers.specs.Answers.{bodies_at, is_of}
 use Rattle.zone_answers.specs.Names.{other_len}
 use Rattle.zone_answers.specs.Lend.{AreLendable, IsBodyFit}
-use Rattle.zone_answers.specs.Index.{body_at, bodies_at_places, places_from}
+use Rattle.zone_answers.specs.Index.{is_chosen, body_at, bodies_at_places, places_of}
 use Rattle.zone_answers.proofs.Places.{bodies_by_places, bodies_more, bodies_all}
 
 abbrev lengths_of : List (List ℕ) → ℕ
@@ -103,10 +106,10 @@ places_few-one : (place : ℕ) (t : Bool) (rest : List ℕ) (n : ℕ) → length
 places_few-one place true rest n h = omega (arith, h)
 places_few-one place false rest n h = omega (arith, h)
 
-pub places_few : (place : ℕ) (records : List Record) (name : List (List ℕ)) → length (places_from place records name) ≤ length records
-places_few place [] name = omega arith
-places_few place (r ∷ records) name =
-    let h = places_few-one place (same_name r.owner name) (places_from (suc place) records name) (length records) (places_few (suc place) records name) in omega (arith, h)
+pub places_few : (chosen : Chosen) (place : ℕ) (records : List Record) (name : List (List ℕ)) → length (places_of chosen place records name) ≤ length records
+places_few chosen place [] name = omega arith
+places_few chosen place (r ∷ records) name =
+    let h = places_few-one place (same_name r.owner name && is_chosen chosen r.body) (places_of chosen (suc place) records name) (length records) (places_few chosen (suc place) records name) in omega (arith, h)
 
 -- ---- the sum of their lengths
 
@@ -122,6 +125,24 @@ pub octets_none : (records : List Record) (places : List ℕ) (i : ℕ) (octets 
 octets_none records places i octets lt e h =
     h ∙ sym (ap (sum_by other_len) (bodies_more records places i None lt e ∙ append-nil (bodies_at_places records (take i places))))
 
-pub octets_all : (zone : Zone) (name : List (List ℕ)) (places : List ℕ) (i octets : ℕ) → places ≡ places_from 0 zone.records name → length places ≤ i
+-- no other body has such a length
+none_more : (body : Body) (bodies : List Body) → other_len body ≡ 0 → sum_by other_len bodies ≡ sum_by other_len (body ∷ bodies)
+none_more body bodies z = sym (sum_by-cons other_len body bodies ∙ omega (arith, z))
+
+texts_one : (body : Body) (texts bodies : List Body) → sum_by other_len texts ≡ sum_by other_len bodies → sum_by other_len (cond (is_of kinds.Txt body) (body ∷ texts) texts) ≡ sum_by other_len (body ∷ bodies)
+texts_one (A n) texts bodies e = e ∙ none_more (A n) bodies refl
+texts_one (Aaaa n) texts bodies e = e ∙ none_more (Aaaa n) bodies refl
+texts_one (Mx p x) texts bodies e = e ∙ none_more (Mx p x) bodies refl
+texts_one (Txt s) texts bodies e = sum_by-cons other_len (Txt s) texts ∙ ap (λ n. other_len (Txt s) + n) e ∙ sym (sum_by-cons other_len (Txt s) bodies)
+texts_one (Cname x) texts bodies e = e ∙ none_more (Cname x) bodies refl
+texts_one (Ns x) texts bodies e = e ∙ none_more (Ns x) bodies refl
+texts_one Other texts bodies e = e ∙ none_more Other bodies refl
+
+texts_alone : (bodies : List Body) → sum_by other_len (filter (is_of kinds.Txt) bodies) ≡ sum_by other_len bodies
+texts_alone [] = refl
+texts_alone (body ∷ bodies) = texts_one body (filter (is_of kinds.Txt) bodies) bodies (texts_alone bodies)
+
+pub octets_all : (zone : Zone) (name : List (List ℕ)) (places : List ℕ) (i octets : ℕ) → places ≡ places_of (Asked kinds.Txt) 0 zone.records name → length places ≤ i
     → octets ≡ sum_by other_len (bodies_at_places zone.records (take i places)) → octets ≡ sum_by other_len (bodies_at zone name)
-octets_all zone name places i octets is le h = h ∙ ap (sum_by other_len) (bodies_all zone.records places i le ∙ bodies_by_places zone places name is)
+octets_all zone name places i octets is le h =
+    h ∙ ap (sum_by other_len) (bodies_all zone.records places i le ∙ bodies_by_places (Asked kinds.Txt) zone places name is) ∙ texts_alone (bodies_at zone name)

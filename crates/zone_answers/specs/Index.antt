@@ -1,6 +1,6 @@
 -- How the names of a zone are found. All of it is the project's own.
-use Rattle.std.specs.Prelude.{◌≡◌, ℕ, suc, ◌≤◌, Bool, true, false, ◌&&◌, ◌||◌, List, [], ◌∷◌, length, Option, Some}
-use Rattle.std.specs.Prelude.{None, filter_map, slice_get, option_map, nat_lt, if◌then◌else◌}
+use Rattle.std.specs.Prelude.{◌≡◌, ℕ, suc, ◌≤◌, Bool, true, false, ◌&&◌, ◌||◌, List, [], ◌∷◌, ◌++◌, length, Option}
+use Rattle.std.specs.Prelude.{Some, None, is_some, filter_map, slice_get, option_map, nat_lt, if◌then◌else◌}
 use Rattle.std.specs.List.{list_any}
 use Rattle.std.specs.Map.{lookup}
 use Rattle.std.specs.Option.{unwrap_or}
@@ -9,6 +9,9 @@ use Rattle.master_reader.specs.declared.record.Record.{Record}
 use Rattle.zone_answers.specs.declared.answer.Answer.{Answer}
 use Rattle.zone_answers.specs.declared.answer.Step.{Step}
 use Rattle.zone_answers.specs.declared.answer.Step.TheVariants.{Known, Alias}
+use Rattle.zone_answers.specs.declared.answer.QKind.TheVariants as kinds
+use Rattle.zone_answers.specs.declared.node.Chosen.{Chosen}
+use Rattle.zone_answers.specs.declared.node.Chosen.TheVariants.{Every, Asked, Aliases}
 use Rattle.zone_answers.specs.declared.node.Node.{Node}
 use Rattle.zone_answers.specs.declared.zone.Lent.{Lent}
 use Rattle.zone_answers.specs.declared.zone.Lent.TheVariants.{All, Parts}
@@ -16,15 +19,22 @@ use Rattle.zone_answers.specs.Zone.{Zone}
 use Rattle.zone_answers.specs.Same.{same_name, distinct_records}
 use Rattle.zone_answers.specs.declared.order.Entry.{Entry}
 use Rattle.dns_name.specs.Name.{is_under}
-use Rattle.zone_answers.specs.Answers.{is_delegation, target_of}
+use Rattle.zone_answers.specs.Answers.{is_delegation, is_of, target_of}
 use Rattle.zone_answers.specs.Order.{ArePlaced, AreSorted}
 use Rattle.zone_answers.specs.Lend.{AreLendable}
 
--- the places of the records with this owner, where the first record of the list has this place
-abbrev pub places_from : ℕ → List Record → List (List ℕ) → List ℕ
-places_from place [] name = []
-places_from place (r ∷ records) name =
-    let rest = places_from (suc place) records name in if same_name r.owner name then place ∷ rest else rest
+-- whether a record with this body is one of those that are looked at
+abbrev pub is_chosen : Chosen → Body → Bool
+is_chosen Every body = true
+is_chosen (Asked kind) body = is_of kind body
+is_chosen Aliases body = is_some (target_of body)
+
+-- the places of the chosen records with this owner, where the first record of the list has this place
+abbrev pub places_of : Chosen → ℕ → List Record → List (List ℕ) → List ℕ
+places_of chosen place [] name = []
+places_of chosen place (r ∷ records) name =
+    let rest = places_of chosen (suc place) records name in
+    if same_name r.owner name && is_chosen chosen r.body then place ∷ rest else rest
 
 -- whether an NS record has this owner
 abbrev pub has_delegation : List Record → List (List ℕ) → Bool
@@ -36,7 +46,24 @@ has_owner records name = list_any (λ r. same_name r.owner name) records
 
 -- what stands at a name
 abbrev pub summary : List Record → List (List ℕ) → Node
-summary records name = record { places = places_from 0 records name; delegates = has_delegation records name }
+summary records name = record {
+  every = places_of Every 0 records name;
+  a = places_of (Asked kinds.A) 0 records name;
+  aaaa = places_of (Asked kinds.Aaaa) 0 records name;
+  mx = places_of (Asked kinds.Mx) 0 records name;
+  txt = places_of (Asked kinds.Txt) 0 records name;
+  aliases = places_of Aliases 0 records name;
+  delegates = has_delegation records name;
+}
+
+-- the places of the chosen records of a node
+abbrev pub places_in : Chosen → Node → List ℕ
+places_in Every node = node.every
+places_in (Asked kinds.A) node = node.a
+places_in (Asked kinds.Aaaa) node = node.aaaa
+places_in (Asked kinds.Mx) node = node.mx
+places_in (Asked kinds.Txt) node = node.txt
+places_in Aliases node = node.aliases
 
 -- each owner is there, with what stands at it, and no other name
 pub record IsIndex (records : List Record) (nodes : List (List (List ℕ) × Node)) : Type 0 where
@@ -45,7 +72,24 @@ pub record IsIndex (records : List Record) (nodes : List (List (List ℕ) × Nod
 
 -- a name with no record
 abbrev pub empty_node : Node
-empty_node = record { places = []; delegates = false }
+empty_node = record { every = []; a = []; aaaa = []; mx = []; txt = []; aliases = []; delegates = false }
+
+-- the places, with one more behind them where it is to be there
+abbrev pub with_place : Bool → List ℕ → ℕ → List ℕ
+with_place true places place = places ++ place ∷ []
+with_place false places place = places
+
+-- a node with one more record, which has this body, at the place
+abbrev pub with_record : Node → ℕ → Body → Node
+with_record node place body = record {
+  every = with_place (is_chosen Every body) node.every place;
+  a = with_place (is_chosen (Asked kinds.A) body) node.a place;
+  aaaa = with_place (is_chosen (Asked kinds.Aaaa) body) node.aaaa place;
+  mx = with_place (is_chosen (Asked kinds.Mx) body) node.mx place;
+  txt = with_place (is_chosen (Asked kinds.Txt) body) node.txt place;
+  aliases = with_place (is_chosen Aliases body) node.aliases place;
+  delegates = is_delegation body || node.delegates;
+}
 
 -- a node where one is to be, and else what was there
 abbrev pub filled : Bool → Option Node → Option Node

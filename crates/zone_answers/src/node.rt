@@ -4,22 +4,102 @@ ghost use Rattle.std.specs.Map.{lookup};
 ghost use Rattle.master_reader.specs.declared.record.Record.{Record};
 ghost use Rattle.zone_answers.specs.Same.{same_name};
 ghost use Rattle.zone_answers.specs.Answers.{is_delegation};
-ghost use Rattle.zone_answers.specs.Index.{filled, IsIndex};
+ghost use Rattle.zone_answers.specs.Index.{empty_node, filled, places_in, with_record, IsIndex};
 
+use crate::answer::QKind;
 use addr_bits::Items;
 use dns_name::Name;
 use indexmap::IndexMap;
 use master_reader::{Body, Record};
 use std::alloc::{AllocError, Global};
 
-/// What stands at a name.
+/// Which records of an owner are looked at.
+#[derive(Clone, Copy)]
+pub(crate) enum Chosen {
+    /// All of them.
+    Every,
+
+    /// Those of the kind that is asked for.
+    Asked(QKind),
+
+    /// CNAME records.
+    Aliases,
+}
+
+/// What stands at a name: the places that the records of this owner have in the zone's list, in rising order. They are
+/// kept by type too, so that a question looks at no record of another type.
 #[derive(Drop, Debug)]
 pub(crate) struct Node {
-    /// The places that the records of this owner have in the zone's list, in rising order.
-    pub(crate) places: Items<usize>,
+    /// The places of all records.
+    every: Items<usize>,
 
-    /// Whether an NS record is among them.
+    /// The places of A records.
+    a: Items<usize>,
+
+    /// The places of AAAA records.
+    aaaa: Items<usize>,
+
+    /// The places of MX records.
+    mx: Items<usize>,
+
+    /// The places of TXT records.
+    txt: Items<usize>,
+
+    /// The places of CNAME records.
+    aliases: Items<usize>,
+
+    /// Whether an NS record is among the records.
     pub(crate) delegates: bool,
+}
+
+impl Node {
+    /// A name with no record.
+    fn new(alloc: Global) -> Node
+        ensures { result ≡ empty_node }
+    {
+        Node {
+            every: Items::new(alloc),
+            a: Items::new(alloc),
+            aaaa: Items::new(alloc),
+            mx: Items::new(alloc),
+            txt: Items::new(alloc),
+            aliases: Items::new(alloc),
+            delegates: false,
+        }
+    }
+
+    /// The places of the chosen records.
+    pub(crate) fn places(&self, chosen: Chosen) -> &[usize]
+        ensures { result.now ≡ places_in chosen self.now }
+    {
+        match chosen {
+            Chosen::Every => self.every.as_slice(),
+            Chosen::Asked(QKind::A) => self.a.as_slice(),
+            Chosen::Asked(QKind::Aaaa) => self.aaaa.as_slice(),
+            Chosen::Asked(QKind::Mx) => self.mx.as_slice(),
+            Chosen::Asked(QKind::Txt) => self.txt.as_slice(),
+            Chosen::Aliases => self.aliases.as_slice(),
+        }
+    }
+
+    /// Adds the place of a record with this body, which is behind those that are there.
+    fn push(&mut self, place: usize, body: &Body) -> Result<(), AllocError>
+        ensures { OnOk result (self.new ≡ with_record self.old place body.now) }
+    {
+        self.every.push(place)?;
+        match body {
+            Body::A(_) => self.a.push(place),
+            Body::Aaaa(_) => self.aaaa.push(place),
+            Body::Mx(_, _) => self.mx.push(place),
+            Body::Txt(_) => self.txt.push(place),
+            Body::Cname(_) => self.aliases.push(place),
+            Body::Ns(_) => {
+                self.delegates = true;
+                Ok(())
+            }
+            Body::Other => Ok(()),
+        }
+    }
 }
 
 /// The owners, in the order of their first record.
@@ -47,12 +127,8 @@ fn add_record(
         → OnOk result (IsIndex (records ++ added.now ∷ []) nodes.new.entries) }
 {
     add_name(alloc, nodes, added.owner.clone()?)?;
-    let delegates = is_delegation(&added.body);
     if let Some(node) = nodes.get_mut(&added.owner) {
-        node.places.push(place)?;
-        if delegates {
-            node.delegates = true;
-        }
+        node.push(place, &added.body)?;
     }
     Ok(())
 }
@@ -73,10 +149,6 @@ fn add_name(alloc: Global, nodes: &mut Nodes, added: Name) -> Result<(), AllocEr
     if nodes.contains_key(&added) {
         return Ok(());
     }
-    let node = Node {
-        places: Items::new(alloc),
-        delegates: false,
-    };
-    nodes.insert(added, node)?;
+    nodes.insert(added, Node::new(alloc))?;
     Ok(())
 }

@@ -10,13 +10,13 @@ ghost use Rattle.zone_answers.specs.Answers.{bodies_at, closest_above, is_cut_of
 ghost use Rattle.zone_answers.specs.Answers.{node_of, target_of, has_record};
 ghost use Rattle.zone_answers.specs.Names.{other_len};
 ghost use Rattle.zone_answers.specs.Reversed.{closest_at, node_below};
-ghost use Rattle.zone_answers.specs.Index.{body_at, counts, stands_at, first_of, has_delegation, places_from};
+ghost use Rattle.zone_answers.specs.Index.{body_at, counts, stands_at, first_of, has_delegation, places_of};
 ghost use Rattle.zone_answers.specs.Index.{target_in};
 ghost use Rattle.zone_answers.specs.Lend.{AreLendable, IsBodyFit, IsLeastClash, has_clash};
 
 use crate::answer::{Bodies, QKind};
 use crate::clash::{clashes, lesser};
-use crate::node::{Nodes, index_records, is_delegation};
+use crate::node::{Chosen, Nodes, index_records, is_delegation};
 use crate::order::{Entry, any_begins, begin_with, key_of, sort_owners};
 use crate::text::other_len;
 use addr_bits::Items;
@@ -246,13 +246,13 @@ impl LentZone {
         Ok(())
     }
 
-    /// The places of the records at the name.
-    fn places(&self, name: &Name) -> &[usize]
-        ensures places { result.now ≡ places_from 0 self.now.records name.now }
+    /// The places of the chosen records at the name.
+    fn places(&self, chosen: Chosen, name: &Name) -> &[usize]
+        ensures places { result.now ≡ places_of chosen 0 self.now.records name.now }
         ensures few { length result.now ≤ 65536 }
     {
         match self.nodes.get(name) {
-            Some(node) => node.places.as_slice(),
+            Some(node) => node.places(chosen),
             None => &[],
         }
     }
@@ -280,13 +280,8 @@ impl LentZone {
     pub(crate) fn alias(&self, name: &Name) -> Option<&Name>
         ensures { option_copied result ≡ first_of (filter_map target_of (bodies_at self.now name.now)) }
     {
-        let places = self.places(name);
-        for place in places {
-            if let Some(target) = self.target(*place) {
-                return Some(target);
-            }
-        }
-        None
+        let first = self.places(Chosen::Aliases, name).first()?;
+        self.target(*first)
     }
 
     /// Whether a CNAME record stands at the name beside another one, or beside a record of a type that is read.
@@ -296,7 +291,7 @@ impl LentZone {
         let Some(target) = self.alias(name) else {
             return false;
         };
-        let places = self.places(name);
+        let places = self.places(Chosen::Every, name);
         for place in places {
             if let Some(body) = self.body(*place) {
                 if clashes(target, body) {
@@ -329,7 +324,7 @@ impl LentZone {
     pub(crate) fn other_text(&self, name: &Name) -> u64
         ensures { result ≡ sum_by other_len (bodies_at self.now name.now) }
     {
-        let places = self.places(name);
+        let places = self.places(Chosen::Asked(QKind::Txt), name);
         let mut octets = 0;
         for place in places {
             if let Some(body) = self.body(*place) {
@@ -348,13 +343,11 @@ impl LentZone {
     ) -> Result<Bodies, AllocError>
         ensures { IfOk result (λ bodies. bodies ≡ filter (is_of kind) (bodies_at self.now name.now)) }
     {
-        let places = self.places(name);
+        let places = self.places(Chosen::Asked(kind), name);
         let mut bodies = Bodies::new(alloc);
         for place in places {
             if let Some(body) = self.body(*place) {
-                if is_of(kind, body) {
-                    bodies.push(copy_of(body)?)?;
-                }
+                bodies.push(copy_of(body)?)?;
             }
         }
         Ok(bodies)
@@ -388,19 +381,6 @@ fn push_under(added: &Name, top: &Name, names: &mut Items<Name>) -> Result<(), A
         names.push(added.clone()?)?;
     }
     Ok(())
-}
-
-/// Whether the body is of the kind.
-fn is_of(kind: QKind, body: &Body) -> bool
-    ensures { result ≡ is_of kind body.now }
-{
-    matches!(
-        (kind, body),
-        (QKind::A, Body::A(_))
-            | (QKind::Aaaa, Body::Aaaa(_))
-            | (QKind::Mx, Body::Mx(_, _))
-            | (QKind::Txt, Body::Txt(_))
-    )
 }
 
 /// The same body.

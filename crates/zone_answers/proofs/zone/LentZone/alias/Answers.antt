@@ -1,12 +1,10 @@
-use Rattle.std.proofs.Common.{arith}
-use Rattle.zone_answers.proofs.Places.{alias_more, alias_found, alias_none}
+use Rattle.std.proofs.Common.{None, Some, ap, ◌∙◌}
+use Rattle.std.specs.Option.{option_copied}
+use Rattle.zone_answers.proofs.Places.{alias_at}
 use Rattle.zone_answers.proofs.zone.LentZone.alias.Goals as goal
 
-pub loop-place-preserved : goal.loop-place-preserved
-loop-place-preserved c = alias_more c.args.self.now.records c.places-places.result.now c.loop-place.place-index (omega arith) c.in_default.ensures c.loop-place.invariant
-
-pub returns-in-Some : goal.returns-in-Some
-returns-in-Some c = alias_found c.args.self.now c.args.name.now c.places-places.result.now c.loop-place.place-index c.in-Some.target.now c.places-places.ensures.places (omega arith) c.in-Some.ensures c.loop-place.invariant
+pub returns-in_err-first : goal.returns-in_err-first
+returns-in_err-first c = ap option_copied c.from_residual.ensures ∙ alias_at c.args.self.now c.places.result.now c.args.name.now None c.places.ensures.places c.in_err-first.ensures.value
 
 pub returns : goal.returns
-returns c = alias_none c.args.self.now c.args.name.now c.places-places.result.now c.loop-place.place-index c.places-places.ensures.places (omega arith) c.loop-place.invariant
+returns c = c.target.ensures ∙ alias_at c.args.self.now c.places.result.now c.args.name.now (Some c.in_ok-first.first.now) c.places.ensures.places c.in_ok-first.ensures.value
