@@ -4,4 +4,5 @@ pub mod Inputs
 pub mod ReadingLimits
 pub mod LowerTexts
 pub mod Settings
+pub mod Subjects
 pub mod ZoneWords

@@ -4,5 +4,6 @@ pub mod Limits
 pub mod Options
 pub mod Rows
 pub mod Size
+pub mod Subjects
 pub mod Words
 pub mod ZoneWords

@@ -8,6 +8,7 @@ mod limits;
 mod options;
 mod row;
 mod size;
+mod subject;
 mod zone_word;
 
 pub use domain::{Domain, lowercase, read_domain};
@@ -17,3 +18,4 @@ pub use limits::{EXCHANGES, LOOKUPS, READING, VOIDS, read_limits};
 pub use options::{behind_options, parse_number, read_flag, read_number, read_text, split_first};
 pub use row::{FlagRow, NumberRow, Row, TextRow};
 pub use size::SIZE;
+pub use subject::Subject;
