@@ -5,11 +5,8 @@ use Rattle.spf_model.specs.Run.{says}
 use Rattle.symbolic_check.proofs.Rests.{rests_on_asked}
 use Rattle.policy_verdicts.proofs.OrderedQuestions.{one_list_asked}
 use Rattle.spfc_words.specs.Limits.{reading_options}
-use Rattle.spfc_words.specs.Options.{behind_options}
-use Rattle.spfc_words.specs.declared.input.Group.TheVariants.{Zones}
-use Rattle.spfc_words.proofs.Domains.{one_domain}
-use Rattle.spfc_words.proofs.Inputs.{one_inputs}
-use Rattle.spfc_words.proofs.ReadingLimits.{one_limits, limits_modest}
+use Rattle.spfc_words.proofs.ReadingLimits.{limits_modest}
+use Rattle.spfc_words.proofs.Subjects.{one_subject}
 use Rattle.loading.specs.declared.loaded.Loaded.{Loaded}
 use Rattle.jobs.specs.Meaning.{Due, Gives, IsLawful}
 use Rattle.jobs.specs.declared.output.Output.{Output}
@@ -20,21 +17,17 @@ use Rattle.job_deps.specs.Words.{SpellsDeps}
 pub deps_ready : (words : List (List ℕ)) (job : Deps) → SpellsDeps words job → IsReady job
 deps_ready [] job is = absurd is
 deps_ready (domain ∷ words) job is =
-    record { named = is.named.named; modest = limits_modest reading_options words job.limits is.reading }
+    record { named = is.named.named; modest = limits_modest reading_options words job.subject.limits is.reading }
 
 pub one_deps : (words : List (List ℕ)) (a b : Deps) → SpellsDeps words a → SpellsDeps words b → a ≡ b
-one_deps [] a b x y = absurd x
-one_deps (domain ∷ words) a b x y =
-    let named : a.domain ≡ b.domain = one_domain domain a.domain b.domain x.named y.named in
-    let reading : a.limits ≡ b.limits = one_limits reading_options words a.limits b.limits x.reading y.reading in
-    let zones : a.inputs ≡ b.inputs =
-    one_inputs Zones (behind_options reading_options words) a.inputs b.inputs x.zones y.zones in
-    λ i. record { domain = named i; limits = reading i; inputs = zones i }
+one_deps words a b x y =
+    let subject : a.subject ≡ b.subject = one_subject words a.subject b.subject x y in
+    λ i. record { subject = subject i }
 
 one_output : (job : Deps) (loaded : Loaded) (a b : Output) → AreDeps job loaded a → AreDeps job loaded b → a ≡ b
 one_output job loaded a b x y =
     let same : x.lines.asked ≡ y.lines.asked =
-    one_list_asked (says loaded.zones) job.limits job.domain.text x.lines.asked y.lines.asked
+    one_list_asked (says loaded.zones) job.subject.limits job.subject.domain.text x.lines.asked y.lines.asked
     x.lines.evaluation.questions y.lines.evaluation.questions in
     let bytes : a.bytes ≡ b.bytes = x.lines.lines ∙ (ap question_lines same ∙ sym y.lines.lines) in
     let asked : a.asked ≡ b.asked = x.untold ∙ sym y.untold in
@@ -52,8 +45,8 @@ at_rest : (job : Deps) (loaded : Loaded) (output : Output) → AreDeps job loade
 at_rest job loaded output is = record {
   are = is;
   rests = λ others alike.
-      rests_on_asked (says loaded.zones) others job.limits job.domain.text is.lines.v4 is.lines.v6 is.lines.asked alike
-      is.lines.evaluation;
+      rests_on_asked (says loaded.zones) others job.subject.limits job.subject.domain.text is.lines.v4 is.lines.v6
+      is.lines.asked alike is.lines.evaluation;
 }
 
 best_due : (job : Deps) (loaded : Loaded) (output : Output) → DepsDue job loaded (Gives output)

@@ -31,7 +31,7 @@ pub record AreAskedLines (zones : List Zone) (limits : Limits) (domain : List �
 
 -- the output is these lines; no question is told of
 pub record AreDeps (job : Deps) (loaded : Loaded) (output : Output) : Type 0 where
-  pub lines : AreAskedLines loaded.zones job.limits job.domain.text output.bytes
+  pub lines : AreAskedLines loaded.zones job.subject.limits job.subject.domain.text output.bytes
   pub untold : output.asked ≡ []
 
 -- RFC 7208, section 4: the policy rests on the questions of the lines alone. Over all others that answer them alike,
@@ -40,7 +40,7 @@ pub record IsBest (job : Deps) (loaded : Loaded) (output : Output) : Type 0 wher
   pub are : AreDeps job loaded output
   pub rests : (others : AnsweringEach)
       → ((question : Question) → Contains are.lines.asked question → AnswerAlike others (says loaded.zones) question)
-      → IsEvaluation others job.limits job.domain.text are.lines.v4 are.lines.v6 are.lines.asked
+      → IsEvaluation others job.subject.limits job.subject.domain.text are.lines.v4 are.lines.v6 are.lines.asked
 
 -- the output is due
 abbrev pub DepsDue : Deps → Loaded → Due → Type 0
@@ -48,10 +48,10 @@ DepsDue job loaded due = (output : Output) × AreDeps job loaded output × (due 
 
 -- the domain is a legal name, and the limits are modest
 pub record IsReady (job : Deps) : Type 0 where
-  pub named : name_of_text job.domain.text ≡ Ok job.domain.name
-  pub modest : AreModest job.limits
+  pub named : name_of_text job.subject.domain.text ≡ Ok job.subject.domain.name
+  pub modest : AreModest job.subject.limits
 
 -- what the job means
 abbrev pub meaning_of_deps : Deps → Meaning
 meaning_of_deps job =
-    record { inputs = job.inputs; IsReady = IsReady job; IsDue = DepsDue job; IsBest = IsBest job }
+    record { inputs = job.subject.inputs; IsReady = IsReady job; IsDue = DepsDue job; IsBest = IsBest job }

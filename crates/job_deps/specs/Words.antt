@@ -1,19 +1,8 @@
 -- The words of the job: `DOMAIN READING ORIGIN=FILE..`. Their form is the project's own choice.
-use Rattle.std.specs.Prelude.{ℕ, List, [], ◌∷◌}
-use Rattle.spfc_words.specs.Domains.{IsDomain}
-use Rattle.spfc_words.specs.Inputs.{AreZoneInputs}
-use Rattle.spfc_words.specs.Limits.{AreLimits, reading_options}
-use Rattle.spfc_words.specs.Options.{behind_options}
-use Rattle.spfc_words.specs.declared.input.Group.TheVariants.{Zones}
+use Rattle.std.specs.Prelude.{ℕ, List}
+use Rattle.spfc_words.specs.Subjects.{SpellsSubject}
 use Rattle.job_deps.specs.declared.deps.Deps.{Deps}
-
--- a domain, and behind it options of the reading limits and zone words
-pub record IsDeps (domain : List ℕ) (words : List (List ℕ)) (job : Deps) : Type 0 where
-  pub named : IsDomain domain job.domain
-  pub reading : AreLimits reading_options words job.limits
-  pub zones : AreZoneInputs Zones (behind_options reading_options words) job.inputs
 
 -- the words behind `deps`
 abbrev pub SpellsDeps : List (List ℕ) → Deps → Type 0
-SpellsDeps [] job = ⊥
-SpellsDeps (domain ∷ words) job = IsDeps domain words job
+SpellsDeps words job = SpellsSubject words job.subject
