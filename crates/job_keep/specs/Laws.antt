@@ -2,11 +2,7 @@
 use Rattle.std.specs.Prelude.{◌≡◌, ℕ, List, [], ◌∷◌}
 use Rattle.std.proofs.Common.{sym, ap, subst, ◌∙◌}
 use Rattle.spfc_words.specs.Limits.{reading_options}
-use Rattle.spfc_words.specs.Options.{behind_options}
-use Rattle.spfc_words.specs.declared.input.Group.TheVariants.{Zones}
-use Rattle.spfc_words.proofs.Domains.{one_domain}
-use Rattle.spfc_words.proofs.Inputs.{one_inputs}
-use Rattle.spfc_words.proofs.ReadingLimits.{one_limits}
+use Rattle.spfc_words.proofs.Subjects.{one_subject}
 use Rattle.kept_lists.proofs.WordRanges.{word_domain, word_limits}
 use Rattle.deps_watch.proofs.KeptWell.{kept_well, one_list}
 use Rattle.loading.specs.declared.loaded.Loaded.{Loaded}
@@ -19,23 +15,19 @@ use Rattle.job_keep.specs.Words.{SpellsKeep}
 pub keep_ready : (words : List (List ℕ)) (job : Keep) → SpellsKeep words job → IsReady job
 keep_ready [] job is = absurd is
 keep_ready (domain ∷ words) job is = record {
-  named = word_domain domain job.domain is.named;
-  ranges = word_limits reading_options words job.limits is.reading;
+  named = word_domain domain job.subject.domain is.named;
+  ranges = word_limits reading_options words job.subject.limits is.reading;
 }
 
 pub one_keep : (words : List (List ℕ)) (a b : Keep) → SpellsKeep words a → SpellsKeep words b → a ≡ b
-one_keep [] a b x y = absurd x
-one_keep (domain ∷ words) a b x y =
-    let named : a.domain ≡ b.domain = one_domain domain a.domain b.domain x.named y.named in
-    let reading : a.limits ≡ b.limits = one_limits reading_options words a.limits b.limits x.reading y.reading in
-    let zones : a.inputs ≡ b.inputs =
-    one_inputs Zones (behind_options reading_options words) a.inputs b.inputs x.zones y.zones in
-    λ i. record { domain = named i; limits = reading i; inputs = zones i }
+one_keep words a b x y =
+    let subject : a.subject ≡ b.subject = one_subject words a.subject b.subject x y in
+    λ i. record { subject = subject i }
 
 one_output : (job : Keep) (loaded : Loaded) (a b : Output) → IsKeptList job loaded a → IsKeptList job loaded b → a ≡ b
 one_output job loaded a b x y =
     let bytes : a.bytes ≡ b.bytes =
-    one_list loaded.zones job.limits job.domain.text a.bytes b.bytes x.list y.list in
+    one_list loaded.zones job.subject.limits job.subject.domain.text a.bytes b.bytes x.list y.list in
     let asked : a.asked ≡ b.asked = x.untold ∙ sym y.untold in
     λ i. record { bytes = bytes i; asked = asked i }
 
@@ -51,7 +43,8 @@ at_rest : (job : Keep) (loaded : Loaded) (output : Output) → IsReady job → I
     → IsBest job loaded output
 at_rest job loaded output ready is = record {
   is = is;
-  well = kept_well loaded.zones job.limits job.domain.text output.bytes ready.named ready.ranges is.list;
+  well =
+      kept_well loaded.zones job.subject.limits job.subject.domain.text output.bytes ready.named ready.ranges is.list;
 }
 
 best_due : (job : Keep) → IsReady job → (loaded : Loaded) (output : Output) → KeepDue job loaded (Gives output)

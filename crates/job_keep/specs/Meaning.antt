@@ -11,7 +11,7 @@ use Rattle.job_keep.specs.declared.keep.Keep.{Keep}
 -- RFC 7208, section 4: the output is the kept list of the questions that check_host asks over the zones for some
 -- address of either family, each with what the zones say to it; no question is told of
 pub record IsKeptList (job : Keep) (loaded : Loaded) (output : Output) : Type 0 where
-  pub list : IsKeptOf loaded.zones job.limits job.domain.text output.bytes
+  pub list : IsKeptOf loaded.zones job.subject.limits job.subject.domain.text output.bytes
   pub untold : output.asked ≡ []
 
 -- RFC 7208, section 4: this list is read back with the domain and the limits of the job and with lines that agree with
@@ -19,7 +19,7 @@ pub record IsKeptList (job : Keep) (loaded : Loaded) (output : Output) : Type 0 
 -- address has the same outcome
 pub record IsBest (job : Keep) (loaded : Loaded) (output : Output) : Type 0 where
   pub is : IsKeptList job loaded output
-  pub well : IsKeptWell loaded.zones job.limits job.domain.text output.bytes
+  pub well : IsKeptWell loaded.zones job.subject.limits job.subject.domain.text output.bytes
 
 -- the output is due
 abbrev pub KeepDue : Keep → Loaded → Due → Type 0
@@ -27,10 +27,10 @@ KeepDue job loaded due = (output : Output) × IsKeptList job loaded output × (d
 
 -- the domain is one in lower case, and the limits are within the ranges of the options of reading
 pub record IsReady (job : Keep) : Type 0 where
-  pub named : IsKeptDomain job.domain.text
-  pub ranges : AreReadingLimits job.limits
+  pub named : IsKeptDomain job.subject.domain.text
+  pub ranges : AreReadingLimits job.subject.limits
 
 -- what the job means
 abbrev pub meaning_of_keep : Keep → Meaning
 meaning_of_keep job =
-    record { inputs = job.inputs; IsReady = IsReady job; IsDue = KeepDue job; IsBest = IsBest job }
+    record { inputs = job.subject.inputs; IsReady = IsReady job; IsDue = KeepDue job; IsBest = IsBest job }
