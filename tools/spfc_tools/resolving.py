@@ -13,10 +13,9 @@ import dns.rcode
 import dns.resolver
 from dns.name import Name
 
-from admin.answers import Answer, Failure
-from admin.ending import Ending, Status
-from admin.questions import Kind, Question
-from admin.replies import ANSWERED, has_alias, read_reply
+from spfc_tools.exit_statuses import Ending, Status
+from spfc_tools.facts import Answer, Failure, Kind, Question
+from spfc_tools.replies import ANSWERED, has_alias, read_reply
 
 _PAUSE = 1.0
 """Seconds between two tries of one question."""

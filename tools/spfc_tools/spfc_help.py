@@ -5,7 +5,7 @@ import subprocess
 from collections.abc import Iterator
 from pathlib import Path
 
-from admin.commands import COMMANDS, OPTIONS, READING, READING_WORD, WITH
+from spfc_tools.commands import COMMANDS, OPTIONS, READING, READING_WORD, WITH
 
 _PROVED = (
     "Proved: the records that compile writes give every IPv4 and every IPv6 address the verdict that check_host "

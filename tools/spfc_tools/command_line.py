@@ -7,9 +7,9 @@ from collections.abc import Callable, Sequence
 from pathlib import Path
 from typing import NoReturn
 
-from admin.ending import Ending, Status
-from admin.program import USAGE, Program
-from admin.resolving import Resolver, addresses
+from spfc_tools.exit_statuses import Ending, Status
+from spfc_tools.program import USAGE, Program
+from spfc_tools.resolving import Resolver, addresses
 
 _TRIED_ADDRESS = "192.0.2.1"
 _STOPPED = 128
