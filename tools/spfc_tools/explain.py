@@ -1,16 +1,13 @@
-"""spfc-explain: says in plain words what a line of spfc means, and what helps.
+"""spfc-explain: says in plain words what a line of spfc means, and what helps."""
 
-    spfc-explain LINE             a line that spfc printed, in one word or in several; or on standard input
-    spfc-explain COMMAND WORD..   runs this command of spfc, and explains what it says, with the files at hand
-"""
-
+import argparse
 import sys
 from collections.abc import Iterable, Iterator, Sequence
 from pathlib import Path
 
 from spfc_tools import command_line
 from spfc_tools.commands import COMMANDS, part
-from spfc_tools.exit_statuses import Ending, ExplainStatus
+from spfc_tools.exit_statuses import ExplainStatus
 from spfc_tools.looking import Looker, wrong_words
 from spfc_tools.program import USAGE, Program, Run, opened_program
 from spfc_tools.refusals import (
@@ -108,11 +105,28 @@ def _last_line(given: Sequence[str], ended: Run) -> str:
     return ended.output.rstrip("\n") if given[0] in ("check", "stale") else ""
 
 
+def _parser() -> command_line.Parser:
+    parser = command_line.Parser(
+        TOOL,
+        "Says in plain words what a line of spfc means, and what helps. If the words are a command line of spfc, runs\n"
+        "it, looks into its files, and explains what it printed.",
+        examples=(
+            "spfc-explain refused 0.0.0.0 lookups example.com 12",
+            "spfc-explain compile example.com .=gathered",
+            "spfc compile example.com .=gathered 2>&1 >fragment | spfc-explain",
+        ),
+        statuses=ExplainStatus,
+    )
+    help_text = "a line that spfc printed, or a command line of spfc; by default a line from standard input"
+    parser.usage = f"{TOOL} [-h] [--version] [LINE | COMMAND WORD..]"
+    parser.add_argument("words", metavar="LINE | COMMAND WORD..", nargs=argparse.REMAINDER, help=help_text)
+    return parser
+
+
 def _run(given: Sequence[str]) -> int:
-    """Explains, and gives the status: 0 where there was something to say, 2 for what is no line of spfc."""
-    if given and given[0] in ("-h", "--help"):
-        print(__doc__, end="")
-        return ExplainStatus.DONE
+    """Explains a line or a command, and returns the exit status."""
+    parser = _parser()
+    given = parser.parse_args(given).words
     if given and Path(given[0]).name == "spfc":
         given = given[1:]
     if given and given[0] in COMMANDS:
@@ -120,7 +134,7 @@ def _run(given: Sequence[str]) -> int:
             return explain_run(program, list(given))
     text = " ".join(given) if given else sys.stdin.read()
     if not text.strip():
-        raise Ending(ExplainStatus.USAGE, "there is no line to explain", "usage: spfc-explain LINE | COMMAND WORD..")
+        parser.error("expected a line of spfc, got none")
     return explain_line(text)
 
 

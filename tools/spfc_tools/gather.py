@@ -10,6 +10,8 @@ from collections.abc import Iterator, Sequence
 from pathlib import Path
 
 from spfc_tools import command_line, files, names
+from spfc_tools.command_line import CHAIN, Parser
+from spfc_tools.commands import READING
 from spfc_tools.exit_statuses import Ending, GatherStatus
 from spfc_tools.gathering import NEEDED_NAMES, Gathered, Gathering, Request, read_policy
 from spfc_tools.program import Program, opened_program
@@ -17,28 +19,31 @@ from spfc_tools.progress import Progress
 
 TOOL = "spfc-gather"
 _LABEL = "_spf"
-_EXCHANGES = 10
 _ASKED = "; asked "
 
 
-def _parser() -> command_line.Parser:
-    parser = command_line.Parser(prog=TOOL, description=__doc__.partition("\n")[0], allow_abbrev=False)
+def _parser() -> Parser:
+    parser = Parser(
+        TOOL,
+        "Asks DNS until every question on which the SPF policy of DOMAIN depends is answered, and writes the answers\n"
+        "as one master file, which spfc reads as .=FILE.",
+        examples=("spfc-gather example.com -o gathered", "spfc compile example.com .=gathered"),
+        statuses=GatherStatus,
+    )
     parser.add_argument(
         "domain", metavar="DOMAIN", type=command_line.domain, help="the domain whose policy is gathered"
     )
-    command_line.add_others(parser)
-    command_line.add_server(parser)
-    parser.add_argument(
-        "-o", dest="output", metavar="FILE", type=command_line.path, help="write FILE, whole or not at all"
-    )
-    parser.add_argument(
-        "--policy", metavar="FILE", type=command_line.path, help="the text of the SPF record to read at DOMAIN"
-    )
-    parser.add_argument(
-        "--holds", metavar="FILE", type=command_line.path, help="ask no server: has FILE what spfc asks?"
-    )
-    parser.add_argument("--no-names", action="store_true", help="do not ask whether the names of a chain are free")
-    command_line.add_options(parser, command_line.READING + command_line.CHAIN)
+    command_line.add_servers_and_zones(parser)
+    group = parser.add_argument_group("files")
+    for flags, purpose in (
+        (("-o", "--output"), "write FILE, whole or not at all, and not standard output"),
+        (("--policy",), "read the text of the SPF record of DOMAIN from FILE"),
+        (("--holds",), "ask no server: check whether FILE answers every question"),
+    ):
+        group.add_argument(*flags, metavar="FILE", type=command_line.path, help=purpose)
+    group.add_argument("--no-names", action="store_true", help="do not ask whether the names of a chain are free")
+    command_line.add_server_options(parser)
+    command_line.add_spfc_options(parser, READING + CHAIN, "options of spfc compile: give the same ones")
     return parser
 
 
@@ -47,19 +52,19 @@ def _judge(program: Program, arguments: argparse.Namespace, reading: Sequence[st
     if arguments.no_names:
         command_line.judge_check(program, arguments.domain, [*reading, *arguments.beside])
     else:
-        options = [*reading, *command_line.given(arguments, command_line.CHAIN)]
+        options = [*reading, *command_line.spfc_options(arguments, CHAIN)]
         command_line.judge(program, ["compile", arguments.domain, *options, *arguments.beside])
     if not program.knows("deps", arguments.domain, *reading):
         raise Ending(GatherStatus.TOOL, f"{program.path} has no command deps")
 
 
 def _request(program: Program, arguments: argparse.Namespace) -> Request:
-    reading = command_line.given(arguments, command_line.READING)
+    reading = command_line.spfc_options(arguments, READING)
     _judge(program, arguments, reading)
     return Request(
         domain=arguments.domain,
         reading=reading,
-        exchanges=int(arguments.exchanges or _EXCHANGES),
+        exchanges=command_line.number(arguments, "--exchanges"),
         label=None if arguments.no_names else (arguments.label or _LABEL).lower(),
         policy=read_policy(arguments.policy, program) if arguments.policy else None,
         beside=arguments.beside,
@@ -76,9 +81,9 @@ def gather(request: Request, program: Program, arguments: argparse.Namespace) ->
     return gathered_text(request, gathered)
 
 
-def _run(given: Sequence[str]) -> int:
+def _run(words: Sequence[str]) -> int:
     """Gathers, or says whether a file holds what is asked, and gives the status."""
-    arguments = command_line.parsed(_parser(), given)
+    arguments = command_line.parse(_parser(), words)
     with opened_program() as program:
         request = _request(program, arguments)
         if arguments.holds:

@@ -8,12 +8,12 @@ from itertools import pairwise
 from pathlib import Path
 
 from spfc_tools import files
+from spfc_tools.commands import READING
 from spfc_tools.exit_statuses import Ending, Status
 from spfc_tools.program import Program
 from spfc_tools.texts import presented_strings
 
 _FIRST = re.compile(r"; deps (\S+) (\d+) (\d+) (\d+)")
-_READING = ("--lookups", "--voids", "--exchanges")
 
 
 @dataclass(frozen=True)
@@ -31,7 +31,7 @@ def read_list(text: str) -> KeptList | None:
     found = _FIRST.fullmatch(first)
     if found is None:
         return None
-    reading = tuple(word for pair in zip(_READING, found.groups()[1:]) for word in pair)
+    reading = tuple(word for pair in zip(READING, found.groups()[1:]) for word in pair)
     lines = (line.split(" ", 2) for line in rest.split("\n") if line.count(" ") > 1)
     return KeptList(found[1], reading, {f"{name} {kind}": answer for name, kind, answer in lines})
 

@@ -4,7 +4,7 @@ from collections.abc import Iterator, Sequence
 from itertools import count
 from pathlib import Path
 
-from spfc_tools.commands import READING, Words
+from spfc_tools.commands import NUMBERS, READING, Words
 from spfc_tools.kept_lists import changes, joined_texts, read_list
 from spfc_tools.program import USAGE, Asker, Program
 from spfc_tools.refusals import QUESTIONS, Line, read_line
@@ -51,9 +51,6 @@ def look_bad(path: Path, number: int) -> Iterator[str]:
         yield f"Each line behind the first is to be: {_LATER}, with one of the kinds {kinds}."
 
 
-_MOST = {"lookups": 20, "voids": 20, "exchanges": 100}
-_LEAST = {"lookups": 10, "voids": 2, "exchanges": 10}
-_MOST_SIZE, _LEAST_SIZE = 4096, 64
 _SHOWN_LINES = 3
 
 
@@ -131,8 +128,9 @@ class Looker:
             if option[0] in READING and option[0] != f"--{cause}"
             for word in option
         ]
+        limits = NUMBERS[f"--{cause}"]
         shown = None
-        for limit in range(_LEAST[cause], _MOST[cause] + 1):
+        for limit in range(limits.least, limits.most + 1):
             found = read_line(self._asker.outcome(self._domain, address, [*others, f"--{cause}", str(limit)]))
             if found is None or found.cause != cause:
                 yield f"For {address} it takes {limit}: --{cause} {limit} reads it."
@@ -141,7 +139,7 @@ class Looker:
             if place != shown:
                 yield f"Too many for a limit of {limit}: {place}"
             shown = place
-        yield f"For {address} it takes more than {_MOST[cause]}."
+        yield f"For {address} it takes more than {limits.most}."
 
     def _misspelled(self, name: str) -> Iterator[str]:
         """The terms that break the grammar, each alone or behind those before it."""
@@ -197,7 +195,7 @@ class Looker:
 
     def _size_that_does(self) -> Iterator[str]:
         """The least size for which the list fits, by halves: what fits a size fits each larger one."""
-        low, high = _LEAST_SIZE, _MOST_SIZE
+        low, high = NUMBERS["--size"].least, NUMBERS["--size"].most
         if self._compiled("--size", str(high)) == "too big":
             yield f"Not even --size {high} would do."
             return

@@ -1,13 +1,7 @@
 """spfc-nightly: says whether what a domain publishes still gives every address the verdict of its policy.
 
-The policy is the old record, the one with the includes, in a file. A line with one of these words and the domain goes
-to standard output, and lines that say more behind it.
-
-    0 same      the records that DNS has give the verdicts of the policy
-    1 changed   they do not: FILE is the fragment to publish, with the label that is not in use
-    2 refused   the policy has no flat records today, or too many addresses lose their pass
-    3 unknown   DNS did not answer; nothing is known and nothing is written
-    4           the words are none of this tool's
+The policy is the old record, the one with the includes, in a file. The first line of the output has one of the words of
+`NightlyStatus` and the domain. More lines follow.
 """
 
 import argparse
@@ -16,6 +10,8 @@ from collections.abc import Sequence
 from dataclasses import dataclass, replace
 
 from spfc_tools import command_line, files
+from spfc_tools.command_line import Parser
+from spfc_tools.commands import READING
 from spfc_tools.exit_statuses import Ending, NightlyStatus
 from spfc_tools.facts import Kind, Question
 from spfc_tools.gathering import Gathered, Gathering, Request, read_policy
@@ -27,8 +23,8 @@ from spfc_tools.progress import Progress
 TOOL = "spfc-nightly"
 _LABELS = ("_spfa", "_spfb")
 _NOBODYS_LABEL = "_spfc-nightly"
+_CUTTING = ("--size", "--ttl")
 _REFUSED = (1, 2)
-_EXCHANGES = 10
 
 
 @dataclass(frozen=True)
@@ -54,10 +50,10 @@ class Nightly:
         self._arguments = arguments
         self._program = program
         self._domain = arguments.domain
-        self._reading = command_line.given(arguments, command_line.READING)
+        self._reading = command_line.spfc_options(arguments, READING)
         self._beside = arguments.beside
-        self._compiling = [*self._reading, *command_line.given(arguments, ("size", "ttl")), *self._beside]
-        exchanges = int(arguments.exchanges or _EXCHANGES)
+        self._compiling = [*self._reading, *command_line.spfc_options(arguments, _CUTTING), *self._beside]
+        exchanges = command_line.number(arguments, "--exchanges")
         self._request = Request(self._domain, self._reading, exchanges, beside=self._beside)
         self._policy = read_policy(arguments.policy, program)
         self._watch = None
@@ -146,40 +142,42 @@ def _number(least: str, count: str) -> int:
 def _labels(text: str) -> tuple[str, str]:
     one, comma, other = text.lower().partition(",")
     if not comma or one == other:
-        raise argparse.ArgumentTypeError(f"{text} is no two labels")
+        raise argparse.ArgumentTypeError(f"expected two different labels A,B, got {text!r}")
     return one, other
 
 
-def _parser() -> command_line.Parser:
-    parser = command_line.Parser(prog=TOOL, description=(__doc__ or "").partition("\n")[0], allow_abbrev=False)
+def _parser() -> Parser:
+    parser = Parser(
+        TOOL,
+        "Compares what DOMAIN publishes with what its policy says today, for all addresses. If they differ, writes\n"
+        "the records to publish. The first line of the output has one of the words same, changed, refused and unknown.",
+        examples=("spfc-nightly example.com policy new --kept kept",),
+        statuses=NightlyStatus,
+    )
+    file = command_line.path
     parser.add_argument(
         "domain", metavar="DOMAIN", type=command_line.domain, help="the domain that publishes flat records"
     )
-    parser.add_argument(
-        "policy", metavar="POLICY", type=command_line.path, help="a file with the text of its old record"
+    parser.add_argument("policy", metavar="POLICY", type=file, help="a file with the text of its old SPF record")
+    parser.add_argument("output", metavar="FILE", type=file, help="the records to publish are written to this file")
+    command_line.add_servers_and_zones(parser)
+    group = parser.add_argument_group("watching")
+    labels = f"the labels in turn, by default {','.join(_LABELS)}"
+    group.add_argument("--labels", metavar="A,B", type=_labels, default=_LABELS, help=labels)
+    group.add_argument(
+        "--kept", metavar="FILE", type=file, help="keep the answers in FILE, and name those that changed"
     )
-    parser.add_argument(
-        "output", metavar="FILE", type=command_line.path, help="the fragment goes here where it is to change"
-    )
-    command_line.add_others(parser)
-    command_line.add_server(parser)
-    parser.add_argument("--labels", metavar="A,B", type=_labels, default=_LABELS, help="labels to use by turns")
-    parser.add_argument(
-        "--kept",
-        metavar="FILE",
-        type=command_line.path,
-        help="keep a night's answers here, and say which changed since",
-    )
-    parser.add_argument("--max-lost", metavar="N", type=int, help="refuse where more addresses lose their pass")
-    command_line.add_options(parser, (*command_line.READING, "size", "ttl"))
+    group.add_argument("--max-lost", metavar="N", type=int, help="refuse if more than N addresses lose their pass")
+    command_line.add_server_options(parser)
+    command_line.add_spfc_options(parser, (*READING, *_CUTTING), "options of spfc compile: give the same ones")
     return parser
 
 
 def _judge(program: Program, arguments: argparse.Namespace) -> None:
     """Has the program say whether it takes the words, and whether it has the commands that they need."""
-    reading = command_line.given(arguments, command_line.READING)
+    reading = command_line.spfc_options(arguments, READING)
     for label in arguments.labels:
-        options = [*reading, *command_line.given(arguments, ("size", "ttl")), "--label", label]
+        options = [*reading, *command_line.spfc_options(arguments, _CUTTING), "--label", label]
         command_line.judge(program, ["compile", arguments.domain, *options, *arguments.beside])
     if Request(arguments.domain, beside=arguments.beside).is_beside(read(arguments.domain)):
         raise Ending(
@@ -195,9 +193,9 @@ def _judge(program: Program, arguments: argparse.Namespace) -> None:
         raise Ending(NightlyStatus.TOOL, f"{program.path} has no command compare, which --max-lost needs")
 
 
-def _run(given: Sequence[str]) -> int:
+def _run(words: Sequence[str]) -> int:
     """Does one night's work, and gives the status."""
-    arguments = command_line.parsed(_parser(), given)
+    arguments = command_line.parse(_parser(), words)
     with opened_program() as program:
         _judge(program, arguments)
         try:

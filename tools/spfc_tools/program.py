@@ -10,16 +10,13 @@ from dataclasses import dataclass, field
 from pathlib import Path
 
 from spfc_tools.exit_statuses import Ending, Status
+from spfc_tools.places import CHECKOUT, PREFIX
 from spfc_tools.texts import presented
 
 USAGE = 4
 """The status of spfc for words that give no job."""
 _TRIED = "try.invalid"
 _ADDRESSES = ("192.0.2.1", "2001:db8::1")
-_HERE = Path(__file__).resolve()
-_INSTALLED = _HERE.parents[min(4, len(_HERE.parents) - 1)] / "libexec/spfc/spfc"
-"""The program next to lib/python3/dist-packages, in which the Debian package has the tools."""
-_IN_CHECKOUT = _HERE.parents[2] / "bin/spfc"
 
 
 @dataclass(frozen=True)
@@ -35,7 +32,7 @@ def find_program() -> str:
     """The program that the variable SPFC names, or else that of the package, of the checkout, or on the path."""
     if named := os.environ.get("SPFC"):
         return named
-    for place in (_INSTALLED, _IN_CHECKOUT):
+    for place in (PREFIX / "libexec/spfc/spfc", CHECKOUT / "bin/spfc"):
         if os.access(place, os.X_OK):
             return str(place)
     if found := shutil.which("spfc"):

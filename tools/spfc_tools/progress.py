@@ -1,5 +1,6 @@
-"""One line on a terminal that says what a tool is at."""
+"""The line on a terminal that says what a tool does just now."""
 
+import logging
 import sys
 
 _COLUMNS = 100
@@ -7,18 +8,18 @@ _BACK = "\r\x1b[K"
 
 
 class Progress:
-    """The line, which nobody sees where standard error is no terminal."""
+    """The line. It is shown if standard error is a terminal and no log is written there."""
 
     def __init__(self, tool: str) -> None:
         self._tool = tool
-        self._is_seen = sys.stderr.isatty()
+        self._is_shown = sys.stderr.isatty() and not logging.getLogger("spfc_tools").isEnabledFor(logging.INFO)
 
     def tell(self, text: str) -> None:
-        """Says something in place of what stands there."""
-        if self._is_seen:
+        """Shows a text in place of the last one."""
+        if self._is_shown:
             print(_BACK + f"{self._tool}: {text}"[:_COLUMNS], end="", file=sys.stderr, flush=True)
 
     def clear(self) -> None:
-        """Takes the line away."""
-        if self._is_seen:
+        """Removes the line."""
+        if self._is_shown:
             print(_BACK, end="", file=sys.stderr, flush=True)

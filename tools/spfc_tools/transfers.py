@@ -1,5 +1,7 @@
 """Whole zones, from a transfer (RFC 5936) or from a file."""
 
+import logging
+import time
 from collections.abc import Iterable, Mapping
 from dataclasses import dataclass
 from pathlib import Path
@@ -66,6 +68,7 @@ def _has(node: Node, kind: str) -> bool:
     return node.get_rdataset(dns.rdataclass.IN, dns.rdatatype.from_text(kind)) is not None
 
 
+_LOG = logging.getLogger(__name__)
 _PORT = 53
 _PATIENCE = 60
 """As many times the seconds of a reply a transfer may take as a whole."""
@@ -125,7 +128,12 @@ class Transfers:
         servers = list(self._servers(origin))
         for _ in range(self._resolver.tries):
             for server in list(servers):
+                begun = time.monotonic()
                 zone = self._transfer(origin, server)
+                said = f"{len(zone.answers)} names" if isinstance(zone, Contents) else zone.why
+                place = f"{server} port {self._port}"
+                seconds = time.monotonic() - begun
+                _LOG.info("transfer of %s from %s: %s, %.3f s", names.printed(origin), place, said, seconds)
                 if isinstance(zone, Contents):
                     return zone
                 why = zone.why
