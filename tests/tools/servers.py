@@ -75,9 +75,8 @@ def free_port() -> int:
 class Server:
     """A running name server."""
 
-    def __init__(self, command: Sequence[str], port: int, log: Path, *, has_zones: bool = True) -> None:
+    def __init__(self, command: Sequence[str], port: int, log: Path) -> None:
         self.port = port
-        self.has_zones = has_zones
         self._log = log
         with log.open("wb") as file:
             self._process = subprocess.Popen(command, stdin=subprocess.DEVNULL, stdout=file, stderr=file)
@@ -92,6 +91,11 @@ class Server:
         except subprocess.TimeoutExpired:
             self._process.kill()
             self._process.wait()
+
+    @property
+    def words(self) -> list[str]:
+        """The words by which a tool asks this server."""
+        return [f"@{HOST}", "-p", str(self.port)]
 
     def reload(self) -> None:
         """Has the server read its zones again."""
@@ -140,7 +144,7 @@ def _named(folder: Path, options: str, zones: str) -> Server:
     text = _NAMED.format(folder=folder, port=port, host=HOST, options=options) + zones
     (folder / "named.conf").write_text(text)
     command = [_runnable("named", folder), "-f", "-n", "1", "-c", str(folder / "named.conf")]
-    return Server(command, port, folder / "log", has_zones=bool(zones))
+    return Server(command, port, folder / "log")
 
 
 def nsd(folder: Path, zones: Path) -> Server:
