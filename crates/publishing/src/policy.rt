@@ -21,7 +21,7 @@ pub struct Publication {
     /// The fragment.
     pub bytes: Bytes,
     /// Each question that check_host asks for some address, once, by the bytes of the printed name and then by A, AAAA,
-    /// MX, TXT.
+    /// MX, TXT, REVERSE4, REVERSE6.
     pub asked: Questions,
 }
 
