@@ -1,14 +1,18 @@
 -- The statuses and the lines of refusals, for all jobs: the project's own choice.
 use Rattle.std.specs.Prelude.{ℕ, List}
-use Rattle.loading.specs.Lines.{no_file_line, long_file_line, bad_zone_line, too_many_line, alias_and_other_line}
-use Rattle.loading.specs.Lines.{no_verdict_line, alias_line, taken_line, too_big_line, bad_list_line}
-use Rattle.loading.specs.Lines.{no_zone_line, no_chain_line, other_verdict_line, no_table_line, no_terms_line}
-use Rattle.loading.specs.Lines.{no_records_line}
-use Rattle.loading.specs.declared.refusal.Denial.{Denial}
-use Rattle.loading.specs.declared.refusal.Denial.TheVariants as denial
-use Rattle.loading.specs.declared.refusal.Refusal.{Refusal}
-use Rattle.loading.specs.declared.refusal.Refusal.TheVariants.{NoFile, LongFile, BadZone, TooManyRecords, AliasAndOther}
-use Rattle.loading.specs.declared.refusal.Refusal.TheVariants.{NoVerdict, Alias, Taken, TooBig, BadList, Denied}
+use Rattle.addr_bits.specs.declared.memory.OrMemory.{OrMemory}
+use Rattle.addr_bits.specs.declared.memory.OrMemory.TheVariants.{Error, Memory}
+use Rattle.verdict_map.specs.declared.fault.VerdictFault.{VerdictFault}
+use Rattle.verdict_map.specs.declared.fault.VerdictFault.TheVariants as fault
+use Rattle.refusals.specs.Lines.{no_file_line, long_file_line, bad_zone_line, too_many_line, alias_and_other_line}
+use Rattle.refusals.specs.Lines.{no_verdict_line, alias_line, taken_line, too_big_line, bad_list_line}
+use Rattle.refusals.specs.Lines.{no_zone_line, no_chain_line, other_verdict_line, no_table_line, no_terms_line}
+use Rattle.refusals.specs.Lines.{no_records_line}
+use Rattle.refusals.specs.declared.refusal.Denial.{Denial}
+use Rattle.refusals.specs.declared.refusal.Denial.TheVariants as denial
+use Rattle.refusals.specs.declared.refusal.Refusal.{Refusal}
+use Rattle.refusals.specs.declared.refusal.Refusal.TheVariants.{NoFile, LongFile, BadZone, TooManyRecords, AliasAndOther}
+use Rattle.refusals.specs.declared.refusal.Refusal.TheVariants.{NoVerdict, Alias, Taken, TooBig, BadList, Denied}
 
 -- 1: what was asked is refused; 2: it is too big; 3: the zones or the list cannot be read; 8: the file does not show
 -- what it should
@@ -47,3 +51,8 @@ refusal_line (Taken number name) = taken_line number name
 refusal_line TooBig = too_big_line
 refusal_line (BadList file line) = bad_list_line file line
 refusal_line (Denied why) = denial_line why
+
+-- project's own choice: where an address has no verdict, the job is refused with it and its outcome
+abbrev pub refusal_of : VerdictFault → OrMemory Refusal
+refusal_of (fault.Refused address outcome) = Error (NoVerdict address outcome)
+refusal_of fault.Memory = Memory

@@ -1,9 +1,9 @@
 //! Lines that are printed.
 ghost use Rattle.std.specs.Prelude.{◌≡◌, ◌++◌, ◌∷◌, IfOk, OnOk};
-ghost use Rattle.loading.specs.Lines.{line_of, kind_word, fault_text, address_text};
-ghost use Rattle.loading.specs.Lines.{bad_zone_line, bad_list_line, too_many_line, alias_and_other_line};
-ghost use Rattle.loading.specs.Lines.{no_verdict_line, taken_line};
-ghost use Rattle.loading.specs.Lines.{no_zone_line, other_verdict_line, no_table_line};
+ghost use Rattle.refusals.specs.Lines.{line_of, kind_word, fault_text, address_text};
+ghost use Rattle.refusals.specs.Lines.{bad_zone_line, bad_list_line, too_many_line, alias_and_other_line};
+ghost use Rattle.refusals.specs.Lines.{no_verdict_line, taken_line};
+ghost use Rattle.refusals.specs.Lines.{no_zone_line, other_verdict_line, no_table_line};
 
 use addr_bits::{Address, Bytes, write_ip4, write_ip6};
 use dns_name::Name;

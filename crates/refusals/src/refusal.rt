@@ -1,16 +1,17 @@
 //! Why a job is refused: the status and the line of each refusal, for all jobs, at this one place.
 ghost use Rattle.std.specs.Prelude.{◌≡◌, IfOk};
-ghost use Rattle.loading.specs.Refusals.{refusal_status, refusal_line, denial_line};
+ghost use Rattle.refusals.specs.Refusals.{refusal_status, refusal_line, denial_line, refusal_of};
 
 use crate::text::{
     alias_and_other, bad_list, bad_zone, line, no_table, no_verdict, no_zone, other_verdict, taken,
     too_many,
 };
-use addr_bits::{Address, Bytes};
+use addr_bits::{Address, Bytes, OrMemory};
 use dns_name::Name;
 use master_reader::Kind;
 use spf_model::Outcome;
 use std::alloc::{AllocError, Global};
+use verdict_map::VerdictFault;
 
 /// Why a job is refused.
 #[derive(Debug, Drop)]
@@ -60,6 +61,18 @@ pub enum Denial {
 }
 
 impl Refusal {
+    /// Why a policy has no verdicts: an address without one, which is refused, or want of memory.
+    pub fn from_fault(fault: VerdictFault) -> OrMemory<Refusal>
+        ensures { result ≡ refusal_of fault }
+    {
+        match fault {
+            VerdictFault::Refused { address, outcome } => {
+                OrMemory::Error(Refusal::NoVerdict { address, outcome })
+            }
+            VerdictFault::Memory => OrMemory::Memory,
+        }
+    }
+
     /// The status with which the program ends.
     pub fn status(&self) -> u8
         ensures { result ≡ refusal_status self.now }
