@@ -1,1 +1,1 @@
-"""Builds the program from a checkout: proves its crates by `rt`, as many at once as the machine can."""
+"""Builds the program from a checkout, several crates at once, and tests what is in the checkout."""

@@ -51,6 +51,18 @@ def program_of(top: Path) -> Path:
     return top / "crates" / crates_of.PROGRAM / "out" / crates_of.PROGRAM
 
 
+def second_program_of(top: Path) -> Path:
+    """Where `rt ci` leaves the program as Rattle's own compiler made it."""
+    program = program_of(top)
+    return program.with_name(f"{program.name}.by-rattle")
+
+
+def programs(top: Path) -> list[Path]:
+    """The built program and, where `rt ci` made it since the last build, that of the second compiler."""
+    second = second_program_of(top)
+    return [program_of(top), *([second] if os.access(second, os.X_OK) else [])]
+
+
 def is_stale(top: Path, crates: Mapping[str, Crate]) -> bool:
     """Whether the program is missing, or older than a source."""
     program = program_of(top)
@@ -171,7 +183,7 @@ def _build(top: Path, crates: Mapping[str, Crate]) -> None:
     begun = time.time()
     say("building the program: each crate is proved, which takes long the first time")
     program = program_of(top)
-    for made in (program, program.with_name(f"{program.name}.by-rattle")):
+    for made in (program, second_program_of(top)):
         made.unlink(missing_ok=True)
     _prove(top, crates)
     os.utime(program, (begun, begun))
