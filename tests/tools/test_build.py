@@ -172,7 +172,7 @@ class Tree:
 
     def wait_for(self, name: str) -> None:
         """Waits until `rt` is called for the crate."""
-        until = time.monotonic() + 20
+        until = time.monotonic() + 60
         while not self.log.exists() or name not in self.log.read_text().split():
             assert time.monotonic() < until, f"{name} is not proved"
             time.sleep(0.02)
@@ -186,20 +186,20 @@ def tree(tmp_path: Path) -> Tree:
 
 def test_build_and_no_build(tree: Tree) -> None:
     """The crates are proved in order, and not again until a source changes."""
-    output, _ = tree.start().communicate(timeout=20)
+    output, _ = tree.start().communicate(timeout=60)
     assert output.strip() == str(building.program_of(tree.top))
     assert tree.built() == ["low", "high", "spfc"]
-    tree.start().communicate(timeout=20)
+    tree.start().communicate(timeout=60)
     assert tree.built() == []
     later = time.time() + 60
     os.utime(tree.top / "crates/high/src/lib.rt", (later, later))
-    tree.start().communicate(timeout=20)
+    tree.start().communicate(timeout=60)
     assert tree.built() == ["low", "high", "spfc"]
 
 
 def test_source_that_changes_meanwhile(tree: Tree) -> None:
     """A source that was changed after the build began makes the program stale."""
-    tree.start().communicate(timeout=20)
+    tree.start().communicate(timeout=60)
     os.utime(tree.top / "crates/low/src/lib.rt")
     assert building.is_stale(tree.top, crates.read(tree.top))
 
@@ -207,7 +207,7 @@ def test_source_that_changes_meanwhile(tree: Tree) -> None:
 def test_crate_that_fails(tree: Tree) -> None:
     """The build ends with the crate's name and its last lines, and no crate above it is proved."""
     process = tree.start(FAKE_FAILS="high")
-    _, said = process.communicate(timeout=20)
+    _, said = process.communicate(timeout=60)
     assert process.returncode != 0
     assert "the build failed at high, with 1 of 3 proved" in said
     assert "\n11\n" in said and "\n30\n" in said and "\n10\n" not in said
@@ -222,13 +222,13 @@ def test_end_of_the_build_ends_its_checks(tree: Tree, number: signal.Signals) ->
     children = Path(f"/proc/{process.pid}/task/{process.pid}/children").read_text().split()
     assert children
     process.send_signal(number)
-    process.communicate(timeout=20)
-    until = time.monotonic() + 10
+    process.communicate(timeout=60)
+    until = time.monotonic() + 60
     while any(Path("/proc", child).exists() for child in children):
         assert time.monotonic() < until
         time.sleep(0.02)
     assert not building.program_of(tree.top).exists()
-    output, _ = tree.start().communicate(timeout=20)
+    output, _ = tree.start().communicate(timeout=60)
     assert output.strip() == str(building.program_of(tree.top))
 
 
@@ -240,8 +240,8 @@ def test_second_build_waits(tree: Tree) -> None:
     assert second.stderr is not None
     assert "another build is at work" in second.stderr.readline()
     first.terminate()
-    first.communicate(timeout=20)
-    output, _ = second.communicate(timeout=20)
+    first.communicate(timeout=60)
+    output, _ = second.communicate(timeout=60)
     assert output.strip() == str(building.program_of(tree.top))
 
 

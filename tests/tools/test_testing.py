@@ -99,7 +99,7 @@ def test_each_group_has_a_meaning_and_a_package() -> None:
 @pytest.mark.parametrize("tool", ["test", "test-tools"])
 def test_machine_without_a_server(tmp_path: Path, tool: str) -> None:
     """Where named is missing and cannot be installed, the test fails and says what is missing."""
-    for name in ("nsd", "named-checkzone", "mandoc", "dpkg-deb"):
+    for name in ("nsd", "named-checkzone", "mandoc", "dpkg-deb", "py3compile"):
         (tmp_path / name).write_text("#!/bin/sh\n")
         (tmp_path / name).chmod(0o755)
     command = [needs.PYTHON, str(TOP / "bin" / tool)]

@@ -19,18 +19,20 @@ class Group(StrEnum):
     """Tests that can be left out by name."""
 
     SERVERS = "servers"
+    PACKAGE = "package"
+    MAN = "man"
     TYPES = "types"
     FORMAT = "format"
-    PACKAGE = "package"
-    MANUALS = "manuals"
+    LINT = "lint"
 
 
 MEANING = {
     Group.SERVERS: "what needs a name server or its tools",
-    Group.TYPES: "the check of types",
-    Group.FORMAT: "the checks of layout and style",
     Group.PACKAGE: "the Debian package",
-    Group.MANUALS: "the check of the manual pages",
+    Group.MAN: "the check of the manual pages",
+    Group.TYPES: "the check of types",
+    Group.FORMAT: "the check of the layout of Python files",
+    Group.LINT: "the check of the style of Python files",
 }
 
 
@@ -53,11 +55,12 @@ NEEDS = (
     Need("bind9", "named", "a name server that the tools are tried with", Group.SERVERS),
     Need("nsd", "nsd", "another name server", Group.SERVERS),
     Need("bind9-utils", "named-checkzone", "loads what `compile` writes", Group.SERVERS),
+    Need("dpkg", "dpkg-deb", "makes the Debian package", Group.PACKAGE),
+    Need("python3-minimal", "py3compile", "compiles its modules as it is installed", Group.PACKAGE),
+    Need("mandoc", "mandoc", "checks the manual pages", Group.MAN),
     Need("mypy", "python:mypy", "checks types", Group.TYPES),
     Need("black", "python:black", "checks the layout of Python files", Group.FORMAT),
-    Need("python3-flake8", "python:flake8", "checks the style of Python files", Group.FORMAT),
-    Need("mandoc", "mandoc", "checks the manual pages", Group.MANUALS),
-    Need("dpkg", "dpkg-deb", "makes the Debian package", Group.PACKAGE),
+    Need("python3-flake8", "python:flake8", "checks the style of Python files", Group.LINT),
 )
 
 

@@ -14,8 +14,6 @@ from pathlib import Path
 from .needs import PYTHON, Group
 
 _CHECKED_FOLDERS = ("tools", "tests/tools")
-_TO_PYTEST = (Group.SERVERS, Group.PACKAGE, Group.MANUALS)
-"""The groups that the checks of the tools know."""
 _COUNTS = re.compile(r"(?:\w+: )?(\d+) passed, (\d+) failed\n?")
 
 
@@ -119,11 +117,12 @@ def _scripts(top: Path) -> list[str]:
 def parts(top: Path, programs: Sequence[Path], without: Collection[Group]) -> Iterator[Part]:
     """All that is run, in order: what ends soon comes first."""
     named = [word for program in programs for word in ("--program", str(program))]
-    left_out = [word for group in without if group in _TO_PYTEST for word in ("--without", group)]
+    left_out = [word for group in without for word in ("--without", group)]
     checked = [*_CHECKED_FOLDERS, *_scripts(top)]
     yield Part("whether each edit applies", ["bin/edits", "--look"])
     if Group.FORMAT not in without:
         yield Part("the layout of Python files", [PYTHON, "-m", "black", "--check", "--quiet", "--diff", *checked])
+    if Group.LINT not in without:
         yield Part("the style of Python files", [PYTHON, "-m", "flake8", *checked])
     if Group.TYPES not in without:
         yield Part("types", [PYTHON, "-m", "mypy", "--strict", "--scripts-are-modules", *checked])
