@@ -1,0 +1,266 @@
+"""Asks DNS until every question on which a policy rests is answered."""
+
+import itertools
+from collections.abc import Iterable, Iterator
+from dataclasses import dataclass
+from pathlib import Path
+
+from dns.name import Name
+
+from spfc_tools import names
+from spfc_tools.exit_statuses import Ending, Status
+from spfc_tools.facts import Alias, Answer, Chain, Data, Facts, Kind, Question, Void, read_question, read_questions
+from spfc_tools.program import Asker, Program
+from spfc_tools.progress import Progress
+from spfc_tools.resolving import Resolver
+from spfc_tools.sender_lists import Lists, targets_beside
+from spfc_tools.texts import presented
+from spfc_tools.transfers import Transfers
+from spfc_tools.world import World
+
+
+def read_policy(path: Path, program: Program) -> str:
+    """The TXT record of the text in the file, in presentation form."""
+    try:
+        text = path.read_bytes().strip(b"\r\n")
+    except OSError as error:
+        raise Ending(Status.TOOL, f"{path}: {error.strerror}") from error
+    record = presented(text)
+    if b"\n" in text or not program.is_policy(record):
+        raise Ending(Status.USAGE, f"{path} is not the text of one SPF record")
+    return record
+
+
+def in_place(answer: Answer, policy: str, program: Program) -> Answer:
+    """The answer for TXT at the domain with this policy in place of the SPF records there; an alias stays one."""
+    if isinstance(answer, Alias):
+        return answer
+    items = answer.items if isinstance(answer, Data) else frozenset()
+    return Data(frozenset(item for item in items if not program.is_policy(item)) | {policy})
+
+
+_MOST_ROUNDS = 1_000
+_MOST_QUESTIONS = 20_000
+_PROBE = b"_spfc"
+NEEDED_NAMES = 10
+"""As many names a chain may have behind the domain."""
+
+
+@dataclass(frozen=True)
+class Request:
+    """What is gathered: the policy of a domain under some reading options, and whether the chain's names are free.
+
+    The zone words `beside` name zones that are read beside the file, and of which DNS is asked nothing.
+    """
+
+    domain: str
+    reading: tuple[str, ...] = ()
+    exchanges: int = 10
+    label: str | None = None
+    policy: str | None = None
+    beside: tuple[str, ...] = ()
+
+    @property
+    def name(self) -> Name:
+        """The domain as a name."""
+        return names.read(self.domain)
+
+    @property
+    def needed(self) -> list[Name]:
+        """The names that a chain under the label may need, where they are asked for."""
+        if self.label is None:
+            return []
+        needed = (names.read(f"{self.label}{number}.{self.domain}") for number in range(1, NEEDED_NAMES + 1))
+        return [name for name in needed if not self.is_beside(name)]
+
+    def is_beside(self, name: Name) -> bool:
+        """Whether the name is at or below the origin of a zone that is read beside the file."""
+        return any(name.is_subdomain(names.read(word.partition("=")[0])) for word in self.beside)
+
+
+@dataclass(frozen=True)
+class Gathered:
+    """A world in which spfc asks nothing that DNS was not asked, and these questions."""
+
+    world: World
+    questions: list[Question]
+
+
+class Gathering:
+    """The rounds: spfc says what it asks over the answers so far, and DNS is asked for what is not answered yet.
+
+    A name that was not asked for lies outside the file, where an evaluation ends, so there are about as many rounds as
+    the policy has terms that ask. A name with records of another kind seems void for a round: then spfc may ask what it
+    does not ask in the end. So a failure counts where the last round asks for it.
+    """
+
+    def __init__(self, request: Request, program: Program, resolver: Resolver, progress: Progress) -> None:
+        self._request = request
+        self._program = program
+        self._resolver = resolver
+        self._lists = Lists(Transfers(resolver), request.is_beside)
+        self._progress = progress
+        self._facts = Facts()
+        self._policy_answer: Answer | None = None
+        self._leading_out: set[str] = set()
+        self._text = Question(request.name, Kind.TXT)
+
+    def gather(self) -> Gathered:
+        """The world of what spfc asks over it, or the end where one of these questions has no answer."""
+        questions = [] if self._request.is_beside(self._request.name) else [self._text]
+        for number in range(1, _MOST_ROUNDS + 1):
+            self._ask_missing(questions, f"round {number}")
+            asked = self._asked(self._world([*questions, *self._expected(questions)]), number)
+            known = set(questions)
+            new = [question for question in asked if question not in known]
+            if not new:
+                return self._last_world(asked, number)
+            questions += new
+        raise Ending(Status.CONTRADICTION, f"no end after {_MOST_ROUNDS} rounds")
+
+    def _last_world(self, questions: list[Question], number: int) -> Gathered:
+        """The world of what is asked alone. Whatever else was answered changes nothing in it."""
+        world = self._world(questions)
+        if failures := list(world.failures()):
+            raise Ending(Status.NO_ANSWER, *failures)
+        if world.is_mixed(self._request.name):
+            line = f"contradiction: {self._request.domain} is an alias for some kinds of records alone"
+            raise Ending(Status.CONTRADICTION, line)
+        if self._asked(world, number) != questions:
+            raise Ending(Status.CONTRADICTION, "contradiction: the file would not answer as DNS does")
+        return Gathered(world, questions)
+
+    def _asked(self, world: World, number: int) -> list[Question]:
+        """What spfc asks over a world."""
+        self._progress.tell(f"round {number}: what is asked")
+        request, zone = self._request, world.zone()
+        lines = self._program.questions(request.domain, request.reading, zone, request.beside)
+        asker = Asker(self._program, request.reading, self._program.zones(request.beside))
+        reversed_lines = [line for line in lines if read_question(line).kind.is_reversed]
+        lines += [line for line in self._lines_of_lists(reversed_lines) if line not in lines]
+        asked = read_questions(line for line in lines if not self._is_answered_beside(line, asker))
+        if len(asked) > _MOST_QUESTIONS:
+            raise Ending(Status.CONTRADICTION, f"more than {_MOST_QUESTIONS} questions")
+        return asked
+
+    def _is_answered_beside(self, line: str, asker: Asker) -> bool:
+        """Whether a question of `deps` is answered by the zones beside the file, and never led out of them."""
+        question = read_question(line)
+        if not self._request.is_beside(question.name):
+            return False
+        if question.kind.is_reversed:
+            return True
+        if asker.is_outside(line):
+            self._leading_out.add(line)
+        return line not in self._leading_out
+
+    def _lines_of_lists(self, lines: list[str]) -> Iterator[str]:
+        """The questions to which lists of addresses lead in the zones beside the file."""
+        for line in lines:
+            targets = targets_beside(self._request.beside, read_question(line))
+            yield from sorted({str(Question(target, Kind.A)) for target in targets})
+
+    def _ask_missing(self, questions: list[Question], place: str) -> None:
+        """Asks what is missing, and what the answers lead to, until nothing is."""
+        while missing := self._missing(questions):
+
+            def tell(number: int, question: Question, total: int = len(missing)) -> None:
+                self._progress.tell(f"{place}: question {number + 1} of {total}: {question}")
+
+            lists = [question for question in missing if question.kind.is_reversed]
+            others = [question for question in missing if not question.kind.is_reversed]
+            for question, answer in self._resolver.ask_all(others, tell):
+                self._facts.learn(question, answer)
+            for number, question in enumerate(lists, len(others)):
+                tell(number, question)
+                for found, answer in self._lists.ask(question):
+                    self._facts.learn(found, answer)
+
+    def _missing(self, questions: list[Question]) -> list[Question]:
+        """The questions that are to be asked next, each once."""
+        lists = (listed.questions for question in questions if (listed := self._facts.listed(question)))
+        wanted = [*questions, *itertools.chain.from_iterable(lists), *self._expected(questions), *self._probes()]
+        missing = (self._facts.missing(question) for question in wanted)
+        return list(dict.fromkeys(question for question in missing if question is not None))
+
+    def _expected(self, questions: list[Question]) -> Iterator[Question]:
+        """What is asked of the exchanges of a name, which need not wait for a round each."""
+        for question in questions:
+            if question.kind is Kind.MX:
+                answer = self._facts.answer(self._facts.chain(question).end)
+                items = answer.items if isinstance(answer, Data) else frozenset()
+                exchanges = [names.read(item.partition(" ")[2]) for item in sorted(items)]
+                if len(exchanges) <= self._request.exchanges + 1:
+                    yield from (Question(name, kind) for name in exchanges for kind in (Kind.A, Kind.AAAA))
+
+    # ------------------------------------------------------------- names that must not stand by themselves
+
+    def _probes(self) -> Iterator[Question]:
+        """What tells whether the domain stands there by itself, and whether the names of the chain are free."""
+        if self._facts.exists(self._text):
+            yield from self._probe(self._request.name)
+        for name in self._request.needed:
+            yield Question(name, Kind.CNAME)
+            if self._facts.exists(Question(name, Kind.CNAME)):
+                yield from self._probe(name)
+
+    def _probe(self, name: Name) -> Iterator[Question]:
+        probe = _probe_name(name)
+        if probe is not None:
+            yield Question(probe, Kind.CNAME)
+            if self._facts.exists(Question(probe, Kind.CNAME)):
+                yield from (Question(name, Kind.TXT), Question(probe, Kind.TXT))
+
+    def _is_of_wildcard(self, name: Name) -> bool:
+        """Whether a wildcard answers for the name: below one that stands there by itself none from above is seen."""
+        probe = _probe_name(name)
+        if probe is None or any(self._is_of_dname(Question(name, kind)) for kind in Kind):
+            return False
+        texts = (Question(name, Kind.TXT), Question(probe, Kind.TXT))
+        return self._facts.exists(Question(probe, Kind.CNAME)) and self._facts.are_same(*texts)
+
+    def _is_of_dname(self, question: Question) -> bool:
+        answer = self._facts.answer(question)
+        return isinstance(answer, Alias) and answer.is_made
+
+    def _floating(self) -> Iterator[Name]:
+        """The domain and the names of the chain, where they do not stand there by themselves."""
+        chain = self._facts.chain(self._text)
+        if (
+            self._facts.exists(self._text)
+            and self._has_more_than_nothing(chain)
+            and self._is_of_wildcard(chain.steps[0].name)
+        ):
+            yield self._request.name
+        for name in self._request.needed:
+            question = Question(name, Kind.CNAME)
+            if self._facts.answer(question) is Void.NO_NAME or (
+                self._facts.exists(question) and self._is_of_wildcard(name)
+            ):
+                yield name
+
+    def _has_more_than_nothing(self, chain: Chain) -> bool:
+        return chain.is_round or isinstance(self._facts.answer(chain.end), Data)
+
+    # ------------------------------------------------------------- the world
+
+    def _world(self, questions: Iterable[Question]) -> World:
+        """The world of these questions, in which each has its answer as far as it is known."""
+        floating = set(self._floating())
+        needed = [Question(name, Kind.CNAME) for name in self._request.needed if name not in floating]
+        return World(self._shown(), [*questions, *needed], floating)
+
+    def _shown(self) -> Facts:
+        """The facts with the policy of the request in place of the one that DNS has."""
+        answer = self._facts.answer(self._text)
+        if self._request.policy is None or not isinstance(answer, Alias | Data | Void):
+            return self._facts
+        if self._policy_answer is None:
+            self._policy_answer = in_place(answer, self._request.policy, self._program)
+        return self._facts.replaced(self._text, self._policy_answer)
+
+
+def _probe_name(name: Name) -> Name | None:
+    """A name that has an answer only where neither the name nor the wildcard below it stands there (RFC 4592)."""
+    wildcard = names.child(names.WILDCARD, name)
+    return None if wildcard is None else names.child(_PROBE, wildcard)
