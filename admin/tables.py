@@ -153,7 +153,8 @@ REASONS: Mapping[str, Entry] = {
 
 WATCHED: Mapping[str, Entry] = {
     "fresh": Entry(
-        "each question of the list is answered as it was, so the policy gives every address the outcome that it gave",
+        "each question of the list is answered as it was; if the list is whole, as `keep` wrote it, the policy gives "
+        "every address the outcome that it gave",
         "the policy asks for nothing; use `verify` to check the published records",
     ),
     "stale NAME KIND": Entry(
