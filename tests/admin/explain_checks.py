@@ -12,9 +12,18 @@ from typing import Any
 
 from scene import TOP, Ended, Report, Scene
 
-sys.path.insert(0, str(TOP))
-from admin.reading_lines import read_line  # noqa: E402
-from admin.tables import CAUSES, KINDS, LINES, QUESTIONS, REASONS, WATCHED, Entry, markdown  # noqa: E402
+sys.path.insert(0, str(TOP / "tools"))
+from spfc_tools.refusals import (  # noqa: E402
+    CAUSES,
+    KINDS,
+    LINES,
+    QUESTIONS,
+    REASONS,
+    WATCHED,
+    Entry,
+    markdown,
+    read_line,
+)
 
 _DOCUMENT = TOP / "docs/ADMINISTRATORS.md"
 _MEANT = ("What it means", "What helps")

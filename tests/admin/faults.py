@@ -26,7 +26,7 @@ class Fault:
 
     def plant(self, folder: Path) -> Path:
         """A copy of the tools with the fault in it: the folder that has them."""
-        for part in ("admin", "bin"):
+        for part in ("tools", "bin"):
             shutil.copytree(TOP / part, folder / part, ignore=shutil.ignore_patterns("__pycache__"))
         path = folder / self.file
         text = path.read_text()

@@ -9,10 +9,10 @@ from pathlib import Path
 import servers
 from scene import TOP, ZONES, Ended, Report, Scene
 
-sys.path.insert(0, str(TOP))
-from admin import names  # noqa: E402
-from admin.resolving import Resolver  # noqa: E402
-from admin.transferring import Transfers  # noqa: E402
+sys.path.insert(0, str(TOP / "tools"))
+from spfc_tools import names  # noqa: E402
+from spfc_tools.resolving import Resolver  # noqa: E402
+from spfc_tools.transfers import Transfers  # noqa: E402
 
 
 @dataclass(frozen=True)

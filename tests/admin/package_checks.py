@@ -11,8 +11,8 @@ from pathlib import Path
 from scene import TOP, Clock, Ended, Report, Scene, run
 from servers import may_run_in
 
-sys.path.insert(0, str(TOP))
-from admin.commands import COMMANDS, OPTIONS  # noqa: E402
+sys.path.insert(0, str(TOP / "tools"))
+from spfc_tools.commands import COMMANDS, OPTIONS  # noqa: E402
 
 _PLACES = {
     "DOMAIN": "example.com",
@@ -110,10 +110,10 @@ def _package(scene: Scene) -> Report:
     run(["dpkg-deb", "-x", made.output.strip(), "root"], folder, {})
     tools = folder / "root/usr/bin"
     (folder / "zone").write_text(_ZONE)
+    own = {"PATH": "/usr/bin:/bin", "SPFC": "", "PYTHONPATH": str(folder / "root/usr/lib/python3/dist-packages")}
     for tool in _TOOLS:
-        ended = run([str(tools / tool), "--help"], folder, {})
+        ended = run([str(tools / tool), "--help"], folder, own)
         report.expect(f"{tool} --help", (0, ""), (ended.status, ended.line))
-    own = {"PATH": "/usr/bin:/bin", "SPFC": ""}
     version = (TOP / "VERSION").read_text().strip()
     report.expect(
         "version", True, run([str(tools / "spfc"), "version"], folder, own).output.startswith(f"spfc {version}, ")

@@ -4,16 +4,53 @@ from collections.abc import Iterator, Sequence
 from itertools import count
 from pathlib import Path
 
-from admin.asking import Asker
-from admin.commands import READING, Words
-from admin.looking_at_lists import look_bad, look_stale
-from admin.program import USAGE, Program
-from admin.reading_lines import Line, read_line
-from admin.texts import texts_at
+from spfc_tools.commands import NUMBERS, READING, Words
+from spfc_tools.kept_lists import changes, joined_texts, read_list
+from spfc_tools.program import USAGE, Asker, Program
+from spfc_tools.refusals import QUESTIONS, Line, read_line
+from spfc_tools.texts import presented
 
-_MOST = {"lookups": 20, "voids": 20, "exchanges": 100}
-_LEAST = {"lookups": 10, "voids": 2, "exchanges": 10}
-_MOST_SIZE, _LEAST_SIZE = 4096, 64
+
+def texts_at(name: str, domain: str, words: Sequence[str], zones: Sequence[str], program: Program) -> list[str]:
+    """The SPF texts that the name has for the policy of the domain, as the program keeps them."""
+    kept = read_list(program.run(["keep", domain, *words, *zones]).output)
+    answer = kept.answers.get(f"{name} TXT", "") if kept else ""
+    return [text.decode("latin-1") for text in joined_texts(answer) if program.is_policy(presented(text))]
+
+
+_FIRST, _LATER = "; deps DOMAIN LOOKUPS VOIDS EXCHANGES", "NAME KIND ANSWER"
+_SHOWN = 200
+
+
+def look_stale(program: Program, path: Path, question: str, zones: Sequence[str]) -> Iterator[str]:
+    """What the question was answered as the list was kept, and what it is answered today."""
+    kept = read_list(path.read_text(encoding="latin-1"))
+    if kept is None or question not in kept.answers:
+        return
+    today = read_list(program.run(["keep", kept.domain, *kept.reading, *zones]).output)
+    answer = today.answers.get(question) if today else None
+    if answer is None:
+        yield f"Today the policy of {kept.domain} does not ask this any more."
+        asked = read_list(Asker(program, kept.reading, zones).kept(question))
+        answer = asked.answers.get(question) if asked else None
+    if answer is not None:
+        yield from (f"{line[0].upper()}{line[1:]}." for line in changes(kept.answers[question], answer))
+    others = sum(today.answers.get(one) != was for one, was in kept.answers.items()) - 1 if today else 0
+    if others > 0:
+        yield f"Further questions of the list that are answered otherwise, or not asked any more: {others}."
+
+
+def look_bad(path: Path, number: int) -> Iterator[str]:
+    """What stands on a line of the list, and what is to stand there."""
+    lines = path.read_text(encoding="latin-1").split("\n")
+    yield f"{number:5}: {lines[number - 1][:_SHOWN]}"
+    if number == 1:
+        yield f"The first line is to be: {_FIRST}, with three numbers in the ranges of the reading options."
+    else:
+        kinds = ", ".join(QUESTIONS)
+        yield f"Each line behind the first is to be: {_LATER}, with one of the kinds {kinds}."
+
+
 _SHOWN_LINES = 3
 
 
@@ -91,8 +128,9 @@ class Looker:
             if option[0] in READING and option[0] != f"--{cause}"
             for word in option
         ]
+        limits = NUMBERS[f"--{cause}"]
         shown = None
-        for limit in range(_LEAST[cause], _MOST[cause] + 1):
+        for limit in range(limits.least, limits.most + 1):
             found = read_line(self._asker.outcome(self._domain, address, [*others, f"--{cause}", str(limit)]))
             if found is None or found.cause != cause:
                 yield f"For {address} it takes {limit}: --{cause} {limit} reads it."
@@ -101,7 +139,7 @@ class Looker:
             if place != shown:
                 yield f"Too many for a limit of {limit}: {place}"
             shown = place
-        yield f"For {address} it takes more than {_MOST[cause]}."
+        yield f"For {address} it takes more than {limits.most}."
 
     def _misspelled(self, name: str) -> Iterator[str]:
         """The terms that break the grammar, each alone or behind those before it."""
@@ -157,7 +195,7 @@ class Looker:
 
     def _size_that_does(self) -> Iterator[str]:
         """The least size for which the list fits, by halves: what fits a size fits each larger one."""
-        low, high = _LEAST_SIZE, _MOST_SIZE
+        low, high = NUMBERS["--size"].least, NUMBERS["--size"].most
         if self._compiled("--size", str(high)) == "too big":
             yield f"Not even --size {high} would do."
             return

@@ -1,15 +1,61 @@
-"""Makes records of what DNS answered, so that spfc gets from them the answers that DNS gave."""
+"""The records of a gathered file: from them spfc gets the answers that DNS gave, and nothing else."""
 
-from collections.abc import Iterable, Iterator
+from collections.abc import Collection, Iterable, Iterator
+from dataclasses import dataclass
 
 from dns.name import Name
 
-from admin import names
-from admin.answers import Alias, Answer, Data, Facts, Failure, Void
-from admin.closing import OUT, closing, is_below
-from admin.ending import Ending, Status
-from admin.questions import Kind, Question
-from admin.records import Record, marker
+from spfc_tools import names
+from spfc_tools.exit_statuses import Ending, Status
+from spfc_tools.facts import Alias, Answer, Data, Facts, Failure, Kind, Question, Void
+
+
+@dataclass(frozen=True)
+class Record:
+    """A record of class IN: its owner, its type, and its data in presentation form."""
+
+    owner: Name
+    type: str
+    data: str
+
+    def __str__(self) -> str:
+        return f"{names.absolute(self.owner)} IN {self.type} {self.data}"
+
+
+def marker(owner: Name) -> Record:
+    """A record of a type for private use, which spfc and name servers pass over: the name exists and has no data."""
+    return Record(owner, "TYPE65280", r"\# 0")
+
+
+OUT = names.read("not-gathered.invalid")
+"""The name that whatever was not gathered is an alias of. It is delegated, so each answer for it lies outside."""
+
+
+def closing(owners: Iterable[Name], whole: Collection[Name] = ()) -> Iterator[Record]:
+    """Records for a zone of the root with records at these names.
+
+    A name that stands there for those below it alone is an alias that leads out. So is a wildcard below each name,
+    which answers for all names that are not there. Of the names that are `whole` all that lies below is there.
+    """
+    standing = {owner for owner in owners if not is_below(owner, whole)} | {OUT}
+    existing = {upper for owner in standing.union(whole) for upper in names.with_ancestors(owner)}
+    existing = {name for name in existing if not is_below(name, whole)}
+    for name in existing - standing:
+        yield _leading_out(name)
+    for name in existing.difference(whole, {OUT}):
+        wildcard = names.child(names.WILDCARD, name)
+        if wildcard is not None and wildcard not in existing:
+            yield _leading_out(wildcard)
+    yield Record(OUT, "NS", names.absolute(OUT))
+
+
+def is_below(name: Name, tops: Collection[Name]) -> bool:
+    """Whether a name lies below one of the tops."""
+    return any(name != top and name.is_subdomain(top) for top in tops)
+
+
+def _leading_out(name: Name) -> Record:
+    return Record(name, "CNAME", names.absolute(OUT))
 
 
 class World:

@@ -5,13 +5,43 @@ from functools import cache
 
 from dns.name import Name
 
-from admin import names
-from admin.answers import Alias, Answer, Failure, Listed, Void
-from admin.questions import Kind, Question
-from admin.resolving import Learned
-from admin.reversed_names import answers_for_some, leads_to_some
-from admin.transferring import NotGiven, Transfers
-from admin.zone_contents import Contents, contents, read_zone
+from spfc_tools import names
+from spfc_tools.facts import Alias, Answer, Failure, Kind, Listed, Question
+from spfc_tools.names import WILDCARD
+from spfc_tools.resolving import Learned
+from spfc_tools.transfers import Contents, NotGiven, Transfers, contents, read_zone
+
+_LABELS = {
+    Kind.REVERSE4: (4, frozenset(str(octet).encode() for octet in range(256))),
+    Kind.REVERSE6: (32, frozenset(f"{digit:x}".encode() for digit in range(16))),
+}
+"""How many labels an address has, and which they may be."""
+
+
+def answers_for_some(owner: Name, question: Question) -> bool:
+    """Whether what stands at a name answers for some address: it is the reversed name of one, or a wildcard above."""
+    most, _ = _LABELS[question.kind]
+    labels = _in_front(owner, question)
+    if labels[:1] == (WILDCARD,):
+        return len(labels) <= most and _are_of_address(labels[1:], question.kind)
+    return len(labels) == most and _are_of_address(labels, question.kind)
+
+
+def leads_to_some(name: Name, question: Question) -> bool:
+    """Whether the reversed name of some address lies at or below a name."""
+    most, _ = _LABELS[question.kind]
+    labels = _in_front(name, question)
+    return len(labels) <= most and _are_of_address(labels, question.kind)
+
+
+def _in_front(name: Name, question: Question) -> tuple[bytes, ...]:
+    """The labels of a name in front of that of the list."""
+    return name.labels[: len(name.labels) - len(question.name.labels)]
+
+
+def _are_of_address(labels: tuple[bytes, ...], kind: Kind) -> bool:
+    _, known = _LABELS[kind]
+    return all(label in known for label in labels)
 
 
 class Lists:

@@ -1,6 +1,10 @@
-"""Has whole zones transferred (RFC 5936), each once."""
+"""Whole zones, from a transfer (RFC 5936) or from a file."""
 
-from collections.abc import Iterable
+import logging
+import time
+from collections.abc import Iterable, Mapping
+from dataclasses import dataclass
+from pathlib import Path
 
 import dns.exception
 import dns.query
@@ -11,13 +15,60 @@ import dns.rrset
 import dns.xfr
 import dns.zone
 from dns.name import Name
+from dns.node import Node
 
-from admin import names
-from admin.answers import Failure
-from admin.replies import has_alias
-from admin.resolving import Resolver
-from admin.zone_contents import Contents, contents
+from spfc_tools import names
+from spfc_tools.exit_statuses import Ending, Status
+from spfc_tools.facts import Alias, Data, Failure, Void
+from spfc_tools.replies import has_alias
+from spfc_tools.resolving import Resolver
 
+
+@dataclass(frozen=True)
+class Contents:
+    """The names of a zone with what each is answered for A, its delegations, and the names of its DNAME records."""
+
+    origin: Name
+    answers: Mapping[Name, Alias | Data | Void]
+    cuts: frozenset[Name]
+    dnames: frozenset[Name]
+
+
+def contents(zone: dns.zone.Zone, origin: Name) -> Contents:
+    """What stands in the zone."""
+    nodes = {name.canonicalize(): node for name, node in zone.nodes.items() if name.is_subdomain(origin)}
+    return Contents(
+        origin,
+        {name: _answer(node) for name, node in nodes.items()},
+        frozenset(name for name, node in nodes.items() if name != origin and _has(node, "NS")),
+        frozenset(name for name, node in nodes.items() if _has(node, "DNAME")),
+    )
+
+
+def read_zone(word: str) -> dns.zone.Zone:
+    """The zone of a zone word, whose file may lack what no zone lacks."""
+    origin, _, file = word.partition("=")
+    try:
+        text = "$TTL 0\n" + Path(file).read_text(encoding="latin-1")
+        return dns.zone.from_text(text, names.read(origin), relativize=False, check_origin=False)
+    except OSError as error:
+        raise Ending(Status.TOOL, f"{file}: {error.strerror}") from error
+    except (ValueError, dns.exception.DNSException) as error:
+        raise Ending(Status.TOOL, f"{file} is no zone of {origin}: {error}") from error
+
+
+def _answer(node: Node) -> Alias | Data | Void:
+    if alias := node.get_rdataset(dns.rdataclass.IN, dns.rdatatype.CNAME):
+        return Alias(names.read(alias[0].to_text()))
+    addresses = node.get_rdataset(dns.rdataclass.IN, dns.rdatatype.A)
+    return Data(frozenset(record.to_text() for record in addresses)) if addresses else Void.NO_DATA
+
+
+def _has(node: Node, kind: str) -> bool:
+    return node.get_rdataset(dns.rdataclass.IN, dns.rdatatype.from_text(kind)) is not None
+
+
+_LOG = logging.getLogger(__name__)
 _PORT = 53
 _PATIENCE = 60
 """As many times the seconds of a reply a transfer may take as a whole."""
@@ -77,7 +128,12 @@ class Transfers:
         servers = list(self._servers(origin))
         for _ in range(self._resolver.tries):
             for server in list(servers):
+                begun = time.monotonic()
                 zone = self._transfer(origin, server)
+                said = f"{len(zone.answers)} names" if isinstance(zone, Contents) else zone.why
+                place = f"{server} port {self._port}"
+                seconds = time.monotonic() - begun
+                _LOG.info("transfer of %s from %s: %s, %.3f s", names.printed(origin), place, said, seconds)
                 if isinstance(zone, Contents):
                     return zone
                 why = zone.why

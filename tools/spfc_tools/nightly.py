@@ -1,44 +1,30 @@
 """spfc-nightly: says whether what a domain publishes still gives every address the verdict of its policy.
 
-The policy is the old record, the one with the includes, in a file. A line with one of these words and the domain goes
-to standard output, and lines that say more behind it.
-
-    0 same      the records that DNS has give the verdicts of the policy
-    1 changed   they do not: FILE is the fragment to publish, with the label that is not in use
-    2 refused   the policy has no flat records today, or too many addresses lose their pass
-    3 unknown   DNS did not answer; nothing is known and nothing is written
-    4           the words are none of this tool's
+The policy is the old record, the one with the includes, in a file. The first line of the output has one of the words of
+`NightlyStatus` and the domain. More lines follow.
 """
 
 import argparse
-import enum
 import sys
 from collections.abc import Sequence
 from dataclasses import dataclass, replace
 
-from admin import policy, words, written
-from admin.ending import Ending, Status
-from admin.gathering import Gathered, Gathering, Request
-from admin.names import read
-from admin.program import Program, Run, opened_program
-from admin.progress import Progress
-from admin.questions import Kind, Question
-from admin.watching import Watch
+from spfc_tools import command_line, files
+from spfc_tools.command_line import Parser
+from spfc_tools.commands import READING
+from spfc_tools.exit_statuses import Ending, NightlyStatus
+from spfc_tools.facts import Kind, Question
+from spfc_tools.gathering import Gathered, Gathering, Request, read_policy
+from spfc_tools.kept_lists import Watch
+from spfc_tools.names import read
+from spfc_tools.program import Program, Run, opened_program
+from spfc_tools.progress import Progress
 
 TOOL = "spfc-nightly"
 _LABELS = ("_spfa", "_spfb")
 _NOBODYS_LABEL = "_spfc-nightly"
+_CUTTING = ("--size", "--ttl")
 _REFUSED = (1, 2)
-_EXCHANGES = 10
-
-
-class Verdict(enum.IntEnum):
-    """What a night ends with."""
-
-    SAME = 0
-    CHANGED = 1
-    REFUSED = 2
-    UNKNOWN = 3
 
 
 @dataclass(frozen=True)
@@ -64,17 +50,17 @@ class Nightly:
         self._arguments = arguments
         self._program = program
         self._domain = arguments.domain
-        self._reading = words.given(arguments, words.READING)
+        self._reading = command_line.spfc_options(arguments, READING)
         self._beside = arguments.beside
-        self._compiling = [*self._reading, *words.given(arguments, ("size", "ttl")), *self._beside]
-        exchanges = int(arguments.exchanges or _EXCHANGES)
+        self._compiling = [*self._reading, *command_line.spfc_options(arguments, _CUTTING), *self._beside]
+        exchanges = command_line.number(arguments, "--exchanges")
         self._request = Request(self._domain, self._reading, exchanges, beside=self._beside)
-        self._policy = policy.read_policy(arguments.policy, program)
+        self._policy = read_policy(arguments.policy, program)
         self._watch = None
         if arguments.kept is not None:
             self._watch = Watch(program, arguments.kept, self._domain, [*self._reading, *self._beside])
 
-    def run(self) -> Verdict:
+    def run(self) -> NightlyStatus:
         """Gathers what is published and what the policy says today, and compares their verdicts."""
         live = self._gathered(self._request)
         source = self._gathered(replace(self._request, policy=self._policy))
@@ -84,16 +70,18 @@ class Nightly:
             return self._refused(wanted, zone)
         published = self._compiled(_NOBODYS_LABEL, live_zone)
         if published.status == 0 and published.output == wanted.output:
-            return self._end(Verdict.SAME, zone)
+            return self._end(NightlyStatus.SAME, zone)
         if published.status:
             print(f"published: {published.line}", file=sys.stderr)
         changes = self._changes(live_zone, zone) if published.status == 0 else []
         lost = sum(change.count for change in changes if change.old == "pass")
         if self._arguments.max_lost is not None and lost > self._arguments.max_lost:
-            return self._end(Verdict.REFUSED, zone, f"{lost} addresses lose their pass", *(one.text for one in changes))
+            return self._end(
+                NightlyStatus.REFUSED, zone, f"{lost} addresses lose their pass", *(one.text for one in changes)
+            )
         return self._publish(live, changes)
 
-    def _publish(self, live: Gathered, changes: list[Change]) -> Verdict:
+    def _publish(self, live: Gathered, changes: list[Change]) -> NightlyStatus:
         """Writes the fragment under the label that is not in use."""
         label = self._unused_label(live)
         source = self._gathered(replace(self._request, policy=self._policy, label=label))
@@ -101,13 +89,13 @@ class Nightly:
         fragment = self._compiled(label, zone)
         if fragment.status:
             return self._refused(fragment, zone)
-        written.write(self._arguments.output, fragment.output)
-        return self._end(Verdict.CHANGED, zone, *(change.text for change in changes))
+        files.write(self._arguments.output, fragment.output)
+        return self._end(NightlyStatus.CHANGED, zone, *(change.text for change in changes))
 
     def _gathered(self, request: Request) -> Gathered:
         progress = Progress(TOOL)
         try:
-            return Gathering(request, self._program, words.resolver(self._arguments), progress).gather()
+            return Gathering(request, self._program, command_line.resolver(self._arguments), progress).gather()
         finally:
             progress.clear()
 
@@ -130,18 +118,18 @@ class Nightly:
         lines = [line.split(" ") for line in ended.output.splitlines() if line.startswith("differ ")]
         return [Change(old, new, least, _number(least, count)) for _, old, new, least, count in lines]
 
-    def _refused(self, ended: Run, zone: str) -> Verdict:
+    def _refused(self, ended: Run, zone: str) -> NightlyStatus:
         print(ended.line, file=sys.stderr)
-        return self._end(Verdict.REFUSED if ended.status in _REFUSED else Verdict.UNKNOWN, zone)
+        return self._end(NightlyStatus.REFUSED if ended.status in _REFUSED else NightlyStatus.UNKNOWN, zone)
 
-    def _end(self, verdict: Verdict, zone: str, *lines: str) -> Verdict:
+    def _end(self, verdict: NightlyStatus, zone: str, *lines: str) -> NightlyStatus:
         """Prints what the night ends with, and which answers changed since the kept list was written.
 
         A night that is refused leaves the list as it is, so that each such night says what has changed since.
         """
         changes = self._watch.changes(zone) if self._watch else []
         print(f"{verdict.name.lower()} {self._domain}", *lines, *changes, sep="\n")
-        if self._watch and verdict in (Verdict.SAME, Verdict.CHANGED):
+        if self._watch and verdict in (NightlyStatus.SAME, NightlyStatus.CHANGED):
             self._watch.renew(zone)
         return verdict
 
@@ -154,53 +142,71 @@ def _number(least: str, count: str) -> int:
 def _labels(text: str) -> tuple[str, str]:
     one, comma, other = text.lower().partition(",")
     if not comma or one == other:
-        raise argparse.ArgumentTypeError(f"{text} is no two labels")
+        raise argparse.ArgumentTypeError(f"expected two different labels A,B, got {text!r}")
     return one, other
 
 
-def _parser() -> words.Parser:
-    parser = words.Parser(prog=TOOL, description=(__doc__ or "").partition("\n")[0], allow_abbrev=False)
-    parser.add_argument("domain", metavar="DOMAIN", type=words.domain, help="the domain that publishes flat records")
-    parser.add_argument("policy", metavar="POLICY", type=words.path, help="a file with the text of its old record")
-    parser.add_argument("output", metavar="FILE", type=words.path, help="the fragment goes here where it is to change")
-    words.add_others(parser)
-    words.add_server(parser)
-    parser.add_argument("--labels", metavar="A,B", type=_labels, default=_LABELS, help="labels to use by turns")
-    parser.add_argument(
-        "--kept", metavar="FILE", type=words.path, help="keep a night's answers here, and say which changed since"
+def _parser() -> Parser:
+    parser = Parser(
+        TOOL,
+        "Compares what DOMAIN publishes with what its policy says today, for all addresses. If they differ, writes\n"
+        "the records to publish. The first line of the output has one of the words same, changed, refused and unknown.",
+        examples=("spfc-nightly example.com policy new --kept kept",),
+        statuses=NightlyStatus,
     )
-    parser.add_argument("--max-lost", metavar="N", type=int, help="refuse where more addresses lose their pass")
-    words.add_options(parser, (*words.READING, "size", "ttl"))
+    file = command_line.path
+    parser.add_argument(
+        "domain", metavar="DOMAIN", type=command_line.domain, help="the domain that publishes flat records"
+    )
+    parser.add_argument("policy", metavar="POLICY", type=file, help="a file with the text of its old SPF record")
+    parser.add_argument("output", metavar="FILE", type=file, help="the records to publish are written to this file")
+    command_line.add_servers_and_zones(parser)
+    group = parser.add_argument_group("watching")
+    labels = f"the labels in turn, by default {','.join(_LABELS)}"
+    group.add_argument("--labels", metavar="A,B", type=_labels, default=_LABELS, help=labels)
+    group.add_argument(
+        "--kept", metavar="FILE", type=file, help="keep the answers in FILE, and name those that changed"
+    )
+    group.add_argument("--max-lost", metavar="N", type=int, help="refuse if more than N addresses lose their pass")
+    command_line.add_server_options(parser)
+    command_line.add_spfc_options(parser, (*READING, *_CUTTING), "options of spfc compile: give the same ones")
     return parser
 
 
 def _judge(program: Program, arguments: argparse.Namespace) -> None:
     """Has the program say whether it takes the words, and whether it has the commands that they need."""
-    reading = words.given(arguments, words.READING)
+    reading = command_line.spfc_options(arguments, READING)
     for label in arguments.labels:
-        options = [*reading, *words.given(arguments, ("size", "ttl")), "--label", label]
-        words.judge(program, ["compile", arguments.domain, *options, *arguments.beside])
+        options = [*reading, *command_line.spfc_options(arguments, _CUTTING), "--label", label]
+        command_line.judge(program, ["compile", arguments.domain, *options, *arguments.beside])
     if Request(arguments.domain, beside=arguments.beside).is_beside(read(arguments.domain)):
-        raise Ending(Status.USAGE, f"the zone of {arguments.domain} is not to be a file: DNS says what is published")
+        raise Ending(
+            NightlyStatus.USAGE, f"the zone of {arguments.domain} is not to be a file: DNS says what is published"
+        )
     wanted = {"deps": [arguments.domain, *reading]}
     if arguments.kept is not None:
         wanted |= {"keep": [arguments.domain, *reading], "stale": [str(arguments.kept)]}
     for command, given in wanted.items():
         if not program.knows(command, *given):
-            raise Ending(Status.TOOL, f"{program.path} has no command {command}")
+            raise Ending(NightlyStatus.TOOL, f"{program.path} has no command {command}")
     if arguments.max_lost is not None and not program.knows("compare", arguments.domain, arguments.domain, *reading):
-        raise Ending(Status.TOOL, f"{program.path} has no command compare, which --max-lost needs")
+        raise Ending(NightlyStatus.TOOL, f"{program.path} has no command compare, which --max-lost needs")
 
 
-def main(given: Sequence[str]) -> int:
+def _run(words: Sequence[str]) -> int:
     """Does one night's work, and gives the status."""
-    arguments = words.parsed(_parser(), given)
+    arguments = command_line.parse(_parser(), words)
     with opened_program() as program:
         _judge(program, arguments)
         try:
             return Nightly(arguments, program).run()
         except Ending as ending:
-            if ending.status in (Status.USAGE, Status.UNWRITTEN):
+            if ending.status in (NightlyStatus.USAGE, NightlyStatus.UNWRITTEN):
                 raise
             print(f"unknown {arguments.domain}")
-            raise Ending(Verdict.UNKNOWN, *ending.lines) from ending
+            raise Ending(NightlyStatus.UNKNOWN, *ending.lines) from ending
+
+
+def main() -> int:
+    """Runs the tool with the words of the command line, and returns its exit status."""
+    return command_line.run(TOOL, _run)

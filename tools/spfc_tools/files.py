@@ -4,7 +4,7 @@ import os
 import tempfile
 from pathlib import Path
 
-from admin.ending import Ending, Status
+from spfc_tools.exit_statuses import Ending, Status
 
 _MODE = 0o666
 

@@ -5,13 +5,30 @@ from dataclasses import dataclass
 
 
 @dataclass(frozen=True)
+class Numbers:
+    """The numbers that an option takes, and its default."""
+
+    least: int
+    most: int
+    default: int
+
+
+@dataclass(frozen=True)
 class Option:
-    """An option: what its value is called (none for a flag), what it gives, its range, and what holds without it."""
+    """An option: how its value is called (empty for a flag), what it does, and the values that it takes."""
 
     value: str
     purpose: str
-    range: str = ""
-    default: str = ""
+    numbers: Numbers | None = None
+    form: str = ""
+    """The values and the default of an option that takes no number."""
+
+    @property
+    def range_text(self) -> str:
+        """The values that it takes and its default, in words."""
+        if self.numbers is None:
+            return self.form
+        return f"{self.numbers.least:,} to {self.numbers.most:,}, by default {self.numbers.default:,}"
 
     @property
     def is_flag(self) -> bool:
@@ -19,17 +36,27 @@ class Option:
         return not self.value
 
 
+NUMBERS: Mapping[str, Numbers] = {
+    "--lookups": Numbers(10, 20, 10),
+    "--voids": Numbers(2, 20, 2),
+    "--exchanges": Numbers(10, 100, 10),
+    "--size": Numbers(64, 4_096, 450),
+    "--ttl": Numbers(0, 2_147_483_647, 3_600),
+}
+"""The options that take a number."""
 OPTIONS: Mapping[str, Option] = {
-    "--lookups": Option("N", "the most terms that ask the DNS", "10 to 20", "10"),
-    "--voids": Option("N", "the most of them that get a void answer", "2 to 20", "2"),
-    "--exchanges": Option("N", "the most exchanges of an mx term", "10 to 100", "10"),
-    "--size": Option("N", "what a record takes is less than this, in octets", "64 to 4,096", "450"),
-    "--ttl": Option("N", "the TTL of the records, in seconds", "0 to 2,147,483,647", "3,600"),
+    "--lookups": Option("N", "the most terms that ask the DNS", NUMBERS["--lookups"]),
+    "--voids": Option("N", "the most of them that get a void answer", NUMBERS["--voids"]),
+    "--exchanges": Option("N", "the most exchanges of an mx term", NUMBERS["--exchanges"]),
+    "--size": Option("N", "what a record takes is less than this, in octets", NUMBERS["--size"]),
+    "--ttl": Option("N", "the TTL of the records, in seconds", NUMBERS["--ttl"]),
     "--label": Option(
-        "L", "what the names behind the first begin with", "_ and up to 60 letters, digits, - and _", "_spf"
+        "L",
+        "what the names of the further records begin with",
+        form="_ and up to 60 letters, digits, - and _, by default _spf",
     ),
-    "--trace": Option("", "tells each question of deps on standard error"),
-    "--weakest": Option("", "gives each address the weakest of the verdicts of the domains, and not the strongest"),
+    "--trace": Option("", "print each question of deps on standard error"),
+    "--weakest": Option("", "give each address the weakest of the verdicts of the domains, and not the strongest"),
 }
 READING = ("--lookups", "--voids", "--exchanges")
 READING_WORD = "READING"

@@ -1,22 +1,31 @@
-"""spfc-explain: says in plain words what a line of spfc means, and what helps.
+"""spfc-explain: says in plain words what a line of spfc means, and what helps."""
 
-    spfc-explain LINE             a line that spfc printed, in one word or in several; or on standard input
-    spfc-explain COMMAND WORD..   runs this command of spfc, and explains what it says, with the files at hand
-"""
-
+import argparse
 import sys
 from collections.abc import Iterable, Iterator, Sequence
 from pathlib import Path
 
-from admin.commands import COMMANDS, part
-from admin.ending import Ending, Status
-from admin.looking import Looker, wrong_words
-from admin.program import USAGE, Program, Run, opened_program
-from admin.reading_lines import OUTCOME, VERDICT, Line, read_line
-from admin.tables import CAUSES, KINDS, LINES, QUESTIONS, REASONS, STATUSES, WATCHED, Entry
+from spfc_tools import command_line
+from spfc_tools.commands import COMMANDS, part
+from spfc_tools.exit_statuses import ExplainStatus
+from spfc_tools.looking import Looker, wrong_words
+from spfc_tools.program import USAGE, Program, Run, opened_program
+from spfc_tools.refusals import (
+    CAUSES,
+    KINDS,
+    LINES,
+    OUTCOME,
+    QUESTIONS,
+    REASONS,
+    STATUSES,
+    VERDICT,
+    WATCHED,
+    Entry,
+    Line,
+    read_line,
+)
 
 TOOL = "spfc-explain"
-_NOT_KNOWN = 2
 _WAYS = {
     "none": "There is no policy for this address.",
     "permerror": "A receiver gives a permanent error.",
@@ -58,9 +67,9 @@ def explain_line(text: str) -> int:
     line = read_line(text.strip())
     if line is None:
         print(f"This is no line of spfc: {text.strip()}")
-        return _NOT_KNOWN
+        return ExplainStatus.NOT_KNOWN
     print(*explained(line), sep="\n")
-    return Status.DONE
+    return ExplainStatus.DONE
 
 
 def explain_run(program: Program, given: list[str]) -> int:
@@ -74,7 +83,7 @@ def explain_run(program: Program, given: list[str]) -> int:
             ),
             sep="\n",
         )
-        return Status.DONE
+        return ExplainStatus.DONE
     line, words = read_line(_last_line(given, ended)), part(given)
     if ended.status in STATUSES:
         entry = STATUSES[ended.status].plain
@@ -85,8 +94,8 @@ def explain_run(program: Program, given: list[str]) -> int:
         print("The command has done its work: there is nothing to explain.")
     else:
         print(f"This is not known here: {ended.line}")
-        return _NOT_KNOWN
-    return Status.DONE
+        return ExplainStatus.NOT_KNOWN
+    return ExplainStatus.DONE
 
 
 def _last_line(given: Sequence[str], ended: Run) -> str:
@@ -96,11 +105,28 @@ def _last_line(given: Sequence[str], ended: Run) -> str:
     return ended.output.rstrip("\n") if given[0] in ("check", "stale") else ""
 
 
-def main(given: Sequence[str]) -> int:
-    """Explains, and gives the status: 0 where there was something to say, 2 for what is no line of spfc."""
-    if given and given[0] in ("-h", "--help"):
-        print(__doc__, end="")
-        return Status.DONE
+def _parser() -> command_line.Parser:
+    parser = command_line.Parser(
+        TOOL,
+        "Says in plain words what a line of spfc means, and what helps. If the words are a command line of spfc, runs\n"
+        "it, looks into its files, and explains what it printed.",
+        examples=(
+            "spfc-explain refused 0.0.0.0 lookups example.com 12",
+            "spfc-explain compile example.com .=gathered",
+            "spfc compile example.com .=gathered 2>&1 >fragment | spfc-explain",
+        ),
+        statuses=ExplainStatus,
+    )
+    help_text = "a line that spfc printed, or a command line of spfc; by default a line from standard input"
+    parser.usage = f"{TOOL} [-h] [--version] [LINE | COMMAND WORD..]"
+    parser.add_argument("words", metavar="LINE | COMMAND WORD..", nargs=argparse.REMAINDER, help=help_text)
+    return parser
+
+
+def _run(given: Sequence[str]) -> int:
+    """Explains a line or a command, and returns the exit status."""
+    parser = _parser()
+    given = parser.parse_args(given).words
     if given and Path(given[0]).name == "spfc":
         given = given[1:]
     if given and given[0] in COMMANDS:
@@ -108,5 +134,10 @@ def main(given: Sequence[str]) -> int:
             return explain_run(program, list(given))
     text = " ".join(given) if given else sys.stdin.read()
     if not text.strip():
-        raise Ending(Status.USAGE, "there is no line to explain", "usage: spfc-explain LINE | COMMAND WORD..")
+        parser.error("expected a line of spfc, got none")
     return explain_line(text)
+
+
+def main() -> int:
+    """Runs the tool with the words of the command line, and returns its exit status."""
+    return command_line.run(TOOL, _run)

@@ -1,12 +1,51 @@
-"""The answers of kept lists in plain words."""
+"""Kept lists, which `spfc keep` writes: each question to DNS that a policy asks, with its answer."""
 
 import ipaddress
 import re
-from collections.abc import Iterator, Sequence
+from collections.abc import Iterator, Mapping, Sequence
 from dataclasses import dataclass
 from itertools import pairwise
+from pathlib import Path
 
-from admin.strings import presented_strings
+from spfc_tools import files
+from spfc_tools.commands import READING
+from spfc_tools.exit_statuses import Ending, Status
+from spfc_tools.program import Program
+from spfc_tools.texts import presented_strings
+
+_FIRST = re.compile(r"; deps (\S+) (\d+) (\d+) (\d+)")
+
+
+@dataclass(frozen=True)
+class KeptList:
+    """A list: its domain, the reading options under which it was kept, and the answers by the questions of `deps`."""
+
+    domain: str
+    reading: tuple[str, ...]
+    answers: Mapping[str, str]
+
+
+def read_list(text: str) -> KeptList | None:
+    """The list of a text, where its first line is that of a list. Whether the others are right is for spfc to say."""
+    first, _, rest = text.partition("\n")
+    found = _FIRST.fullmatch(first)
+    if found is None:
+        return None
+    reading = tuple(word for pair in zip(READING, found.groups()[1:]) for word in pair)
+    lines = (line.split(" ", 2) for line in rest.split("\n") if line.count(" ") > 1)
+    return KeptList(found[1], reading, {f"{name} {kind}": answer for name, kind, answer in lines})
+
+
+def differences(old: KeptList, new: KeptList) -> Iterator[str]:
+    """A line for each question of either list that the other does not have, or has another answer to."""
+    for question in dict.fromkeys([*old.answers, *new.answers]):
+        if question not in new.answers:
+            yield f"not asked any more: {question}"
+        elif question not in old.answers:
+            yield f"asked besides: {question}"
+        elif old.answers[question] != new.answers[question]:
+            yield f"answered otherwise: {question}"
+
 
 _WORDS = {
     "outside": "the answer lies outside the zones",
@@ -115,3 +154,50 @@ def _shown(lines: Sequence[str]) -> Iterator[str]:
     yield from lines[:_SHOWN]
     if len(lines) > _SHOWN:
         yield f"and {len(lines) - _SHOWN} more such runs of addresses"
+
+
+_FRESH = "fresh\n"
+
+
+class Watch:
+    """The kept list of a domain, in a file that need not be there yet."""
+
+    def __init__(self, program: Program, path: Path, of_domain: str, words: Sequence[str]) -> None:
+        self._program = program
+        self._path = path
+        self._keep = ["keep", of_domain, *words]
+        self._beside = [word for word in words if "=" in word]
+
+    def changes(self, zone: str) -> list[str]:
+        """A line for each question that is not answered as the list has it; or why the list does not count."""
+        if not self._path.exists():
+            return []
+        ended = self._program.over(["stale", str(self._path), *self._beside], zone)
+        if ended.status:
+            return [_not_counted(ended.line)]
+        old, new = read_list(self._path.read_text(encoding="latin-1")), self._list(zone)
+        if old is None or (old.domain, old.reading) != (new.domain, new.reading):
+            return [_not_counted(f"{self._path} was kept for another domain, or with other options")]
+        if ended.output == _FRESH:
+            return []
+        return list(differences(old, new))
+
+    def renew(self, zone: str) -> None:
+        """Keeps the answers of today, whole or not at all."""
+        files.write(self._path, self._text(zone))
+
+    def _text(self, zone: str) -> str:
+        ended = self._program.over(self._keep, zone)
+        if ended.status:
+            raise Ending(Status.TOOL, f"spfc keep ended with {ended.status}: {ended.line}")
+        return ended.output
+
+    def _list(self, zone: str) -> KeptList:
+        found = read_list(self._text(zone))
+        if found is None:
+            raise Ending(Status.TOOL, "spfc keep wrote no list")
+        return found
+
+
+def _not_counted(why: str) -> str:
+    return f"the kept list does not count: {why}"

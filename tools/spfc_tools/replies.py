@@ -13,9 +13,8 @@ from dns.rdatatype import RdataType
 from dns.rdtypes.ANY.CNAME import CNAME
 from dns.rdtypes.ANY.MX import MX
 
-from admin import names
-from admin.answers import Alias, Answer, Data, Failure, Void
-from admin.questions import Kind, Question
+from spfc_tools import names
+from spfc_tools.facts import Alias, Answer, Data, Failure, Kind, Question, Void
 
 ANSWERED = (dns.rcode.NOERROR, dns.rcode.NXDOMAIN)
 

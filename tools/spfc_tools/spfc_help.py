@@ -3,9 +3,9 @@
 import shutil
 import subprocess
 from collections.abc import Iterator
-from pathlib import Path
 
-from admin.commands import COMMANDS, OPTIONS, READING, READING_WORD, WITH
+from spfc_tools.commands import COMMANDS, OPTIONS, READING, READING_WORD, WITH
+from spfc_tools.places import data_file, version_number
 
 _PROVED = (
     "Proved: the records that compile writes give every IPv4 and every IPv6 address the verdict that check_host "
@@ -51,16 +51,15 @@ def _options(names: tuple[str, ...]) -> Iterator[str]:
     for name in names:
         option = OPTIONS[name]
         written = f"{name} {option.value}".rstrip()
-        rest = f": {option.range}; {option.default} where it is not written" if option.range else ""
+        rest = f": {option.range_text}" if option.range_text else ""
         yield f"  {written:13} {option.purpose}{rest}"
 
 
-def version(top: Path) -> str:
-    """The version, the kit by which the program was proved, and what is proved."""
-    folder = next((place for place in (top, top / "share/spfc") if (place / "VERSION").exists()), top)
-    kit = folder / "KIT"
-    line = kit.read_text().strip() if kit.exists() else kit_line()
-    return f"spfc {(folder / 'VERSION').read_text().strip()}, proved with {line}\n{_PROVED}\n"
+def version() -> str:
+    """The version, the kit with which the program was proved, and what is proved."""
+    kit = data_file("KIT")
+    line = kit.read_text().strip() if kit else kit_line()
+    return f"spfc {version_number()}, proved with {line}\n{_PROVED}\n"
 
 
 def kit_line() -> str:

@@ -1,6 +1,8 @@
 """Asks name servers."""
 
+import logging
 import socket
+import time
 from collections.abc import Callable, Iterable, Iterator
 from concurrent.futures import ThreadPoolExecutor
 from dataclasses import dataclass, field
@@ -13,15 +15,17 @@ import dns.rcode
 import dns.resolver
 from dns.name import Name
 
-from admin.answers import Answer, Failure
-from admin.ending import Ending, Status
-from admin.questions import Kind, Question
-from admin.replies import ANSWERED, has_alias, read_reply
+from spfc_tools import names
+from spfc_tools.exit_statuses import Ending, Status
+from spfc_tools.facts import Answer, Failure, Kind, Question
+from spfc_tools.replies import ANSWERED, has_alias, read_reply
 
 _PAUSE = 1.0
 """Seconds between two tries of one question."""
 _PAYLOAD = 1232
 """Octets of a reply over UDP that is not cut on its way; a longer one comes over TCP."""
+
+_LOG = logging.getLogger(__name__)
 
 Learned = list[tuple[Question, Answer]]
 
@@ -106,6 +110,14 @@ class Resolver:
 
     def _exchange(self, name: Name, kind: str, server: str) -> dns.message.Message | Failure:
         """A query and its reply, over TCP where UDP has no room for it."""
+        begun = time.monotonic()
+        reply = self._asked(name, kind, server)
+        said = reply.why if isinstance(reply, Failure) else _in_words(reply)
+        place = f"{server} port {self.port}"
+        _LOG.info("%s %s of %s: %s, %.3f s", names.printed(name), kind, place, said, time.monotonic() - begun)
+        return reply
+
+    def _asked(self, name: Name, kind: str, server: str) -> dns.message.Message | Failure:
         query = dns.message.make_query(name, kind, use_edns=0, payload=_PAYLOAD)
         try:
             return dns.query.udp_with_fallback(query, server, self.seconds, self.port, ignore_unexpected=True)[0]
@@ -113,3 +125,9 @@ class Resolver:
             return Failure("no reply")
         except dns.exception.DNSException:
             return Failure("malformed reply")
+
+
+def _in_words(reply: dns.message.Message) -> str:
+    """What a reply has, for the log."""
+    count = sum(len(records) for records in reply.answer)
+    return f"{dns.rcode.to_text(reply.rcode())}, {count} record{'' if count == 1 else 's'}"

@@ -3,20 +3,41 @@
 import itertools
 from collections.abc import Iterable, Iterator
 from dataclasses import dataclass
+from pathlib import Path
 
 from dns.name import Name
 
-from admin import names, policy
-from admin.answers import Alias, Answer, Chain, Data, Facts, Void
-from admin.asking import Asker
-from admin.ending import Ending, Status
-from admin.listing import Lists, targets_beside
-from admin.program import Program
-from admin.progress import Progress
-from admin.questions import Kind, Question, read_question, read_questions
-from admin.resolving import Resolver
-from admin.transferring import Transfers
-from admin.world import World
+from spfc_tools import names
+from spfc_tools.exit_statuses import Ending, Status
+from spfc_tools.facts import Alias, Answer, Chain, Data, Facts, Kind, Question, Void, read_question, read_questions
+from spfc_tools.program import Asker, Program
+from spfc_tools.progress import Progress
+from spfc_tools.resolving import Resolver
+from spfc_tools.sender_lists import Lists, targets_beside
+from spfc_tools.texts import presented
+from spfc_tools.transfers import Transfers
+from spfc_tools.world import World
+
+
+def read_policy(path: Path, program: Program) -> str:
+    """The TXT record of the text in the file, in presentation form."""
+    try:
+        text = path.read_bytes().strip(b"\r\n")
+    except OSError as error:
+        raise Ending(Status.TOOL, f"{path}: {error.strerror}") from error
+    record = presented(text)
+    if b"\n" in text or not program.is_policy(record):
+        raise Ending(Status.USAGE, f"{path} is not the text of one SPF record")
+    return record
+
+
+def in_place(answer: Answer, policy: str, program: Program) -> Answer:
+    """The answer for TXT at the domain with this policy in place of the SPF records there; an alias stays one."""
+    if isinstance(answer, Alias):
+        return answer
+    items = answer.items if isinstance(answer, Data) else frozenset()
+    return Data(frozenset(item for item in items if not program.is_policy(item)) | {policy})
+
 
 _MOST_ROUNDS = 1_000
 _MOST_QUESTIONS = 20_000
@@ -235,7 +256,7 @@ class Gathering:
         if self._request.policy is None or not isinstance(answer, Alias | Data | Void):
             return self._facts
         if self._policy_answer is None:
-            self._policy_answer = policy.in_place(answer, self._request.policy, self._program)
+            self._policy_answer = in_place(answer, self._request.policy, self._program)
         return self._facts.replaced(self._text, self._policy_answer)
 
 
