@@ -53,7 +53,7 @@ _MISBEHAVIOURS = (
 )
 
 
-@pytest.mark.parametrize("fault", _MISBEHAVIOURS, ids=lambda fault: fault.label)
+@pytest.mark.parametrize("fault", _MISBEHAVIOURS, ids=lambda fault: str(fault.label))
 def test_misbehaving_server(fault: Misbehaviour, workplace: Workplace, misbehaving: Server) -> None:
     """A fault that can be overcome changes no outcome. Any other has a line with its question, and no file."""
     domain = f"{fault.label}.fake.test"
@@ -68,7 +68,7 @@ def test_misbehaving_server(fault: Misbehaviour, workplace: Workplace, misbehavi
 
 
 def test_server_that_denies_no_name(workplace: Workplace, misbehaving: Server) -> None:
-    """Where each name that does not exist answers without data (RFC 9824), free names are still told from taken ones."""
+    """A name that does not exist is answered without data (RFC 9824): free names are still told from taken ones."""
     domain = "black.fake.test"
     assert workplace.gather(misbehaving, domain, "-o", "gathered") == Ended(0)
     outcomes = {"192.0.2.1": "pass", "192.0.2.2": "fail"}

@@ -46,12 +46,7 @@ def _cases() -> list[Case]:
     return [Case(name, domain, tuple(options)) for name, domain, *options in map(str.split, lines)]
 
 
-@pytest.fixture(params=_cases(), ids=lambda case: case.name)
-def case(request: pytest.FixtureRequest) -> Case:
-    """A line of the file `gather_cases`."""
-    return request.param
-
-
+@pytest.mark.parametrize("case", _cases(), ids=lambda case: str(case.name))
 def test_case(case: Case, workplace: Workplace, server: Server, second_server: Server, forwarder: Server) -> None:
     """Servers of three kinds give the same file; over it `compile` and `check` say what they say over the zones."""
     gathered = workplace.gather(server, case.domain, *_PATIENCE, *case.options)

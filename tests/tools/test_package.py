@@ -201,8 +201,8 @@ def test_installed_tools(installed: Workplace, workplace: Workplace, server: Ser
 @pytest.mark.needs("package")
 def test_modules_of_the_package(installed: Workplace) -> None:
     """The package has each module of the checkout, and its types."""
-    made = installed.folder / "root/usr/lib/python3/dist-packages"
-    source = TOP / "tools"
+    made = installed.folder / "root/usr/lib/python3/dist-packages/spfc_tools"
+    source = TOP / "tools/spfc_tools"
     wanted = [path.relative_to(source) for path in source.rglob("*") if path.suffix == ".py" or path.name == "py.typed"]
     assert sorted(path.relative_to(made) for path in made.rglob("*") if path.is_file()) == sorted(wanted)
 
