@@ -2,7 +2,7 @@ use Rattle.std.proofs.lemmas.Result.{IfOk-weaker}
 use Rattle.addr_bits.specs.Address.{address_of}
 use Rattle.symbolic_check.specs.Walk.{says_at}
 use Rattle.symbolic_check.proofs.Families.{family_ends}
-use Rattle.symbolic_check.proofs.both.outcomes.Goals as goal
+use Rattle.symbolic_check.proofs.evaluation.family_outcomes.Goals as goal
 
 pub returns : goal.returns
 returns g c =

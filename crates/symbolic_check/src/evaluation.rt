@@ -22,7 +22,7 @@ use zone_answers::{Questions, Zones};
 
 /// The outcome of every address, as a trie for each family.
 #[derive(Drop)]
-pub struct Both {
+pub struct Outcomes {
     /// The outcome at each IPv4 address.
     pub v4: TrieMap<u32, Ending>,
     /// The outcome at each IPv6 address.
@@ -33,7 +33,7 @@ pub struct Both {
 }
 
 /// The outcome of every address of a family. The questions that their evaluations ask are added.
-fn outcomes<W: NetworkFamily>(
+fn family_outcomes<W: NetworkFamily>(
     context: &RecordContext<'_>,
     asked: &mut Questions,
 ) -> Result<TrieMap<W, Ending>, AllocError>
@@ -59,10 +59,10 @@ pub fn evaluate(
     zones: &Zones,
     limits: Limits,
     domain: &[u8],
-) -> Result<Both, AllocError>
+) -> Result<Outcomes, AllocError>
     requires named { IsOk (name_of_text domain.now) }
     requires modest { AreModest limits }
-    ensures { IfOk result (λ both. IsEvaluation (says zones.now) limits domain.now both.v4 both.v6 both.asked) }
+    ensures { IfOk result (λ found. IsEvaluation (says zones.now) limits domain.now found.v4 found.v6 found.asked) }
 {
     let name = Name::from_text(domain).unwrap();
     let four = RecordContext {
@@ -78,8 +78,8 @@ pub fn evaluate(
         ..four
     };
     let mut asked = Questions::new(alloc);
-    let v4 = outcomes(&four, &mut asked)?;
-    let v6 = outcomes(&six, &mut asked)?;
+    let v4 = family_outcomes(&four, &mut asked)?;
+    let v6 = family_outcomes(&six, &mut asked)?;
     let asked = in_order(alloc, asked)?;
-    Ok(Both { v4, v6, asked })
+    Ok(Outcomes { v4, v6, asked })
 }
