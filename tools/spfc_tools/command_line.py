@@ -8,6 +8,7 @@ from collections.abc import Callable, Iterable, Sequence
 from pathlib import Path
 from typing import NoReturn
 
+from spfc_tools import files
 from spfc_tools.commands import NUMBERS, OPTIONS
 from spfc_tools.exit_statuses import Ending, ExitStatus, Status
 from spfc_tools.places import version_number
@@ -162,6 +163,20 @@ def judge(program: Program, command: Sequence[str]) -> None:
 def judge_check(program: Program, of_domain: str, reading: Sequence[str]) -> None:
     """Does the same for a domain and reading options."""
     judge(program, ["check", of_domain, _TRIED_ADDRESS, *reading])
+
+
+def judge_files(output: Path | None, read: Iterable[Path | None], zones: Iterable[str] = ()) -> None:
+    """Ends with status 4 if the output would replace a file that is also read: one of these, or that of a zone word."""
+    inputs = [*read, *(Path(word.partition("=")[2]) for word in zones)]
+    if output is not None and any(file is not None and files.are_same(output, file) for file in inputs):
+        raise Ending(Status.USAGE, f"expected another file to write to than those that are read, got {output}")
+
+
+def judge_zones(program: Program, of_domain: str, reading: Sequence[str], zones: Sequence[str]) -> None:
+    """Ends with what spfc says of the files of the zone words, before anything is asked of DNS."""
+    ended = program.over(["deps", of_domain, *reading, *zones], "")
+    if ended.status:
+        raise Ending(Status.TOOL, ended.line)
 
 
 # ------------------------------------------------------------- running

@@ -56,10 +56,12 @@ def _judge(program: Program, arguments: argparse.Namespace, reading: Sequence[st
         command_line.judge(program, ["compile", arguments.domain, *options, *arguments.beside])
     if not program.knows("deps", arguments.domain, *reading):
         raise Ending(GatherStatus.TOOL, f"{program.path} has no command deps")
+    command_line.judge_zones(program, arguments.domain, reading, arguments.beside)
 
 
 def _request(program: Program, arguments: argparse.Namespace) -> Request:
     reading = command_line.spfc_options(arguments, READING)
+    command_line.judge_files(arguments.output, (arguments.policy, arguments.holds), arguments.beside)
     _judge(program, arguments, reading)
     return Request(
         domain=arguments.domain,

@@ -174,8 +174,10 @@ def _parser() -> Parser:
 
 
 def _judge(program: Program, arguments: argparse.Namespace) -> None:
-    """Has the program say whether it takes the words, and whether it has the commands that they need."""
+    """Judges the files, and has the program say whether it takes the words and has the commands that they need."""
     reading = command_line.spfc_options(arguments, READING)
+    command_line.judge_files(arguments.output, (arguments.policy, arguments.kept), arguments.beside)
+    command_line.judge_files(arguments.kept, (arguments.policy,), arguments.beside)
     for label in arguments.labels:
         options = [*reading, *command_line.spfc_options(arguments, _CUTTING), "--label", label]
         command_line.judge(program, ["compile", arguments.domain, *options, *arguments.beside])
@@ -191,6 +193,7 @@ def _judge(program: Program, arguments: argparse.Namespace) -> None:
             raise Ending(NightlyStatus.TOOL, f"{program.path} has no command {command}")
     if arguments.max_lost is not None and not program.knows("compare", arguments.domain, arguments.domain, *reading):
         raise Ending(NightlyStatus.TOOL, f"{program.path} has no command compare, which --max-lost needs")
+    command_line.judge_zones(program, arguments.domain, reading, arguments.beside)
 
 
 def _run(words: Sequence[str]) -> int:
@@ -198,8 +201,9 @@ def _run(words: Sequence[str]) -> int:
     arguments = command_line.parse(_parser(), words)
     with opened_program() as program:
         _judge(program, arguments)
+        night = Nightly(arguments, program)
         try:
-            return Nightly(arguments, program).run()
+            return night.run()
         except Ending as ending:
             if ending.status in (NightlyStatus.USAGE, NightlyStatus.UNWRITTEN):
                 raise

@@ -18,7 +18,7 @@ from dns.name import Name
 from spfc_tools import names
 from spfc_tools.exit_statuses import Ending, Status
 from spfc_tools.facts import Answer, Failure, Kind, Question
-from spfc_tools.replies import ANSWERED, has_alias, read_reply
+from spfc_tools.replies import ANSWERED, contradicts_itself, has_alias, read_reply
 
 _PAUSE = 1.0
 """Seconds between two tries of one question."""
@@ -106,7 +106,8 @@ class Resolver:
             if not isinstance(step, Failure) and has_alias(step, question.name):
                 return list(read_reply(question, step)), True
         is_refused = reply.rcode() == dns.rcode.REFUSED and len(self.servers) == 1
-        return list(read_reply(question, reply)), is_refused or reply.rcode() in ANSWERED
+        is_answered = reply.rcode() in ANSWERED and not contradicts_itself(reply)
+        return list(read_reply(question, reply)), is_refused or is_answered
 
     def _exchange(self, name: Name, kind: str, server: str) -> dns.message.Message | Failure:
         """A query and its reply, over TCP where UDP has no room for it."""
