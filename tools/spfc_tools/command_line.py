@@ -83,7 +83,24 @@ def _server_or_zone(text: str) -> str:
     return text
 
 
+def _domain_server_or_zone(text: str) -> str:
+    """The word of a domain, or one of the others."""
+    return _server_or_zone(text) if text.startswith("@") or "=" in text else domain(text)
+
+
 # ------------------------------------------------------------- options
+
+
+def add_domains_servers_and_zones(parser: Parser) -> None:
+    """Adds `DOMAIN` once or more, `@SERVER` and `ORIGIN=FILE`, in any order."""
+    parser.add_argument(
+        "servers_and_zones",
+        metavar="DOMAIN.. | @SERVER | ORIGIN=FILE",
+        nargs="+",
+        type=_domain_server_or_zone,
+        help="gather the policy of each DOMAIN; ask this name server, by its name or address; read the zone ORIGIN from"
+        " FILE and not from DNS",
+    )
 
 
 def add_servers_and_zones(parser: Parser) -> None:
@@ -133,13 +150,18 @@ def number(arguments: argparse.Namespace, name: str) -> int:
 
 
 def parse(parser: Parser, words: Sequence[str]) -> argparse.Namespace:
-    """The options and words, with the server as `server` and the zone words as `beside`; starts the log."""
+    """The options and words, with the server as `server`, the zone words as `beside`, and other words as `domains`.
+
+    Starts the log.
+    """
     arguments = parser.parse_intermixed_args(words)
     servers = [word for word in arguments.servers_and_zones if word.startswith("@")]
     if len(servers) > 1:
         parser.error(f"expected one @SERVER, got {' '.join(servers)}")
     arguments.server = servers[0][1:] if servers else None
-    arguments.beside = tuple(word for word in arguments.servers_and_zones if not word.startswith("@"))
+    arguments.beside = tuple(word for word in arguments.servers_and_zones if "=" in word)
+    others = (word for word in arguments.servers_and_zones if not word.startswith("@") and "=" not in word)
+    arguments.domains = tuple(dict.fromkeys(others))
     if arguments.verbose:
         start_log(parser.prog)
     return arguments

@@ -54,7 +54,7 @@ class Nightly:
         self._beside = arguments.beside
         self._compiling = [*self._reading, *command_line.spfc_options(arguments, _CUTTING), *self._beside]
         exchanges = command_line.number(arguments, "--exchanges")
-        self._request = Request(self._domain, self._reading, exchanges, beside=self._beside)
+        self._request = Request((self._domain,), self._reading, exchanges, beside=self._beside)
         self._policy = read_policy(arguments.policy, program)
         self._watch = None
         if arguments.kept is not None:
@@ -181,7 +181,7 @@ def _judge(program: Program, arguments: argparse.Namespace) -> None:
     for label in arguments.labels:
         options = [*reading, *command_line.spfc_options(arguments, _CUTTING), "--label", label]
         command_line.judge(program, ["compile", arguments.domain, *options, *arguments.beside])
-    if Request(arguments.domain, beside=arguments.beside).is_beside(read(arguments.domain)):
+    if Request((arguments.domain,), beside=arguments.beside).is_beside(read(arguments.domain)):
         raise Ending(
             NightlyStatus.USAGE, f"the zone of {arguments.domain} is not to be a file: DNS says what is published"
         )
