@@ -9,6 +9,7 @@ from pathlib import Path
 from typing import NoReturn
 
 from spfc_tools import files
+from spfc_tools.cautions import cautions
 from spfc_tools.commands import NUMBERS, OPTIONS
 from spfc_tools.exit_statuses import Ending, ExitStatus, Status
 from spfc_tools.places import version_number
@@ -199,6 +200,18 @@ def judge_zones(program: Program, of_domain: str, reading: Sequence[str], zones:
     ended = program.over(["deps", of_domain, *reading, *zones], "")
     if ended.status:
         raise Ending(Status.TOOL, ended.line)
+
+
+def warn(tool: str, program: Program, of_domain: str, reading: Sequence[str], beside: Sequence[str], zone: str) -> None:
+    """Writes to standard error what a policy lacks over a zone of the root and the zones beside it."""
+    zones = program.zones_of(zone, beside)
+
+    def run_program(words: Sequence[str]) -> tuple[int, str]:
+        ended = program.run(words)
+        return ended.status, ended.output
+
+    for line in cautions(run_program, of_domain, reading, zones):
+        print(f"{tool}: warning: {line}", file=sys.stderr)
 
 
 # ------------------------------------------------------------- running

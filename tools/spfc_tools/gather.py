@@ -104,6 +104,8 @@ def _run(words: Sequence[str]) -> int:
                 raise Ending(GatherStatus.NO_ANSWER, *missing)
             return GatherStatus.DONE
         text = gather(request, program, arguments)
+        for domain in request.domains:
+            command_line.warn(TOOL, program, domain, request.reading, request.beside, text)
     if arguments.output:
         files.write(arguments.output, text)
     else:

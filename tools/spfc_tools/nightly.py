@@ -65,6 +65,7 @@ class Nightly:
         live = self._gathered(self._request)
         source = self._gathered(replace(self._request, policy=self._policy))
         live_zone, zone = live.world.zone(), source.world.zone()
+        command_line.warn(TOOL, self._program, self._domain, self._reading, self._beside, zone)
         wanted = self._compiled(_NOBODYS_LABEL, zone)
         if wanted.status:
             return self._refused(wanted, zone)
