@@ -2,6 +2,7 @@
 
 import argparse
 import logging
+import re
 import signal
 import sys
 from collections.abc import Callable, Iterable, Sequence
@@ -20,6 +21,8 @@ _TRIED_ADDRESS = "192.0.2.1"
 _STOPPED = 128
 """Added to the number of a signal that ends a tool."""
 _MOST_NUMBER = 99_999
+_WITH_PORT = re.compile(r"([^:]+|\[[^]]+\])[:#](\d+)")
+"""A server with a port, which has an option of its own."""
 CHAIN = ("--size", "--ttl", "--label")
 """The options of spfc that decide how the records of a chain are cut and named."""
 
@@ -160,6 +163,8 @@ def parse(parser: Parser, words: Sequence[str]) -> argparse.Namespace:
     if len(servers) > 1:
         parser.error(f"expected one @SERVER, got {' '.join(servers)}")
     arguments.server = servers[0][1:] if servers else None
+    if found := _WITH_PORT.fullmatch(arguments.server or ""):
+        parser.error(f"expected @SERVER, got @{arguments.server}: give the port by -p {found[2]}")
     arguments.beside = tuple(word for word in arguments.servers_and_zones if "=" in word)
     others = (word for word in arguments.servers_and_zones if not word.startswith("@") and "=" not in word)
     arguments.domains = tuple(dict.fromkeys(others))

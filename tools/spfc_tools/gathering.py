@@ -12,9 +12,9 @@ from spfc_tools.exit_statuses import Ending, Status
 from spfc_tools.facts import Alias, Answer, Chain, Data, Facts, Kind, Question, Void, read_question, read_questions
 from spfc_tools.program import Asker, Program
 from spfc_tools.progress import Progress
-from spfc_tools.resolving import Resolver
+from spfc_tools.resolving import NO_REPLY, Resolver
 from spfc_tools.sender_lists import Lists, targets_beside
-from spfc_tools.texts import presented
+from spfc_tools.texts import presented, why_no_policy
 from spfc_tools.transfers import Transfers
 from spfc_tools.world import World
 
@@ -27,7 +27,8 @@ def read_policy(path: Path, program: Program) -> str:
         raise Ending(Status.TOOL, f"{path}: {error.strerror}") from error
     record = presented(text)
     if b"\n" in text or not program.is_policy(record):
-        raise Ending(Status.USAGE, f"{path} is not the text of one SPF record")
+        why = "it has several lines" if b"\n" in text else why_no_policy(text)
+        raise Ending(Status.USAGE, f"{path} is not the text of one SPF record{f': {why}' if why else ''}")
     return record
 
 
@@ -124,7 +125,7 @@ class Gathering:
         """The world of what is asked alone. Whatever else was answered changes nothing in it."""
         world = self._world(questions)
         if failures := list(world.failures()):
-            raise Ending(Status.NO_ANSWER, *failures)
+            raise Ending(Status.NO_ANSWER, *self._shown_failures(failures))
         for domain, name in zip(self._request.domains, self._request.names):
             if world.is_mixed(name):
                 line = f"contradiction: {domain} is an alias for some kinds of records alone"
@@ -132,6 +133,12 @@ class Gathering:
         if self._asked(world, number) != questions:
             raise Ending(Status.CONTRADICTION, "contradiction: the file would not answer as DNS does")
         return Gathered(world, questions)
+
+    def _shown_failures(self, failures: list[str]) -> list[str]:
+        """The lines of the failures, or one line where no server replied at all: no name is wrong then."""
+        if self._facts.has_answers or not all(failure.endswith(f": {NO_REPLY}") for failure in failures):
+            return failures
+        return [f"{NO_REPLY} from {' '.join(self._resolver.servers)} port {self._resolver.port}"]
 
     def _asked(self, world: World, number: int) -> list[Question]:
         """What spfc asks over a world."""

@@ -25,6 +25,9 @@ _PAUSE = 1.0
 _PAYLOAD = 1232
 """Octets of a reply over UDP that is not cut on its way; a longer one comes over TCP."""
 
+NO_REPLY = "no reply"
+"""Why a question failed that no server replied to."""
+
 _LOG = logging.getLogger(__name__)
 
 Learned = list[tuple[Question, Answer]]
@@ -79,7 +82,7 @@ class Resolver:
 
     def reply(self, name: Name, kind: str) -> dns.message.Message | Failure:
         """The reply to a question for records of any type, asked anew where it fails."""
-        reply: dns.message.Message | Failure = Failure("no reply")
+        reply: dns.message.Message | Failure = Failure(NO_REPLY)
         for server in self._attempts():
             reply = self._exchange(name, kind, server)
             if isinstance(reply, dns.message.Message) and reply.rcode() in ANSWERED:
@@ -123,7 +126,7 @@ class Resolver:
         try:
             return dns.query.udp_with_fallback(query, server, self.seconds, self.port, ignore_unexpected=True)[0]
         except (dns.exception.Timeout, OSError, EOFError):
-            return Failure("no reply")
+            return Failure(NO_REPLY)
         except dns.exception.DNSException:
             return Failure("malformed reply")
 
