@@ -2,6 +2,7 @@
 
 import argparse
 import logging
+import os
 import re
 import signal
 import sys
@@ -231,12 +232,21 @@ def start_log(tool: str) -> None:
     log.setLevel(logging.INFO)
 
 
+class _Stopped(BaseException):
+    """A signal ends the tool."""
+
+    def __init__(self, number: int) -> None:
+        super().__init__(number)
+        self.number = number
+
+
 def run(tool: str, main: Callable[[Sequence[str]], int]) -> int:
     """Runs a tool with the words of the command line, and returns its exit status.
 
-    An `Ending` is written to standard error. SIGTERM, SIGHUP and SIGINT end the tool with 128 and their number.
+    An `Ending` is written to standard error. SIGTERM, SIGHUP and SIGINT end the tool at once, with 128 and their
+    number: no thread that waits for a server is waited for.
     """
-    for number in (signal.SIGTERM, signal.SIGHUP):
+    for number in (signal.SIGTERM, signal.SIGHUP, signal.SIGINT):
         signal.signal(number, _stop)
     try:
         return main(sys.argv[1:])
@@ -244,9 +254,9 @@ def run(tool: str, main: Callable[[Sequence[str]], int]) -> int:
         for line in ending.lines:
             print(line if line.startswith(("usage:", " ", f"{tool}: ")) else f"{tool}: {line}", file=sys.stderr)
         return int(ending.status)
-    except KeyboardInterrupt:
-        return _STOPPED + signal.SIGINT
+    except _Stopped as stopped:
+        os._exit(_STOPPED + stopped.number)
 
 
 def _stop(number: int, _frame: object) -> NoReturn:
-    sys.exit(_STOPPED + number)
+    raise _Stopped(number)

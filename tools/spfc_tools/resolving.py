@@ -59,16 +59,17 @@ class Resolver:
     def ask_all(self, questions: Iterable[Question], tell: Callable[[int, Question], None]) -> Learned:
         """Asks all, some at a time, and gives what was learned in the order of the questions."""
         learned: Learned = []
-        with ThreadPoolExecutor(self.at_once) as pool:
-            try:
-                asked = [(question, pool.submit(self.ask, question)) for question in questions]
-                for number, (question, answer) in enumerate(asked):
-                    tell(number, question)
-                    learned += answer.result()
-            except BaseException:
-                self._stopped.set()
-                pool.shutdown(wait=False, cancel_futures=True)
-                raise
+        pool = ThreadPoolExecutor(self.at_once)
+        try:
+            asked = [(question, pool.submit(self.ask, question)) for question in questions]
+            for number, (question, answer) in enumerate(asked):
+                tell(number, question)
+                learned += answer.result()
+        except BaseException:
+            self._stopped.set()
+            raise
+        finally:
+            pool.shutdown(wait=False, cancel_futures=True)
         return learned
 
     def ask(self, question: Question) -> Learned:
