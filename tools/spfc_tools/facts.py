@@ -119,6 +119,11 @@ class Facts:
         if isinstance(self._answers.get(question, Failure("")), Failure):
             self._answers[question] = answer
 
+    @property
+    def has_answers(self) -> bool:
+        """Whether any question has an answer that is no failure."""
+        return any(not isinstance(answer, Failure) for answer in self._answers.values())
+
     def answer(self, question: Question) -> Answer | None:
         """The answer itself, where there is one."""
         return self._answers.get(question)

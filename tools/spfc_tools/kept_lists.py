@@ -160,9 +160,13 @@ _FRESH = "fresh\n"
 
 
 class Watch:
-    """The kept list of a domain, in a file that need not be there yet."""
+    """The kept list of a domain, in a file that need not be there yet.
+
+    A file with anything else than a kept list ends the tool: it is not to be written over.
+    """
 
     def __init__(self, program: Program, path: Path, of_domain: str, words: Sequence[str]) -> None:
+        _judge(path)
         self._program = program
         self._path = path
         self._keep = ["keep", of_domain, *words]
@@ -197,6 +201,20 @@ class Watch:
         if found is None:
             raise Ending(Status.TOOL, "spfc keep wrote no list")
         return found
+
+
+def _judge(path: Path) -> None:
+    """Ends if the file cannot be read, or has something that is no kept list."""
+    if not path.exists():
+        return
+    if not path.is_file():
+        raise Ending(Status.USAGE, f"expected a kept list or a new file, got {path}, which is not a plain file")
+    try:
+        text = path.read_text(encoding="latin-1")
+    except OSError as error:
+        raise Ending(Status.TOOL, f"{path}: {error.strerror}") from error
+    if text and read_list(text) is None:
+        raise Ending(Status.USAGE, f"expected a kept list or a new file, got {path}, which is not a kept list")
 
 
 def _not_counted(why: str) -> str:

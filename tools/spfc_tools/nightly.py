@@ -54,7 +54,7 @@ class Nightly:
         self._beside = arguments.beside
         self._compiling = [*self._reading, *command_line.spfc_options(arguments, _CUTTING), *self._beside]
         exchanges = command_line.number(arguments, "--exchanges")
-        self._request = Request(self._domain, self._reading, exchanges, beside=self._beside)
+        self._request = Request((self._domain,), self._reading, exchanges, beside=self._beside)
         self._policy = read_policy(arguments.policy, program)
         self._watch = None
         if arguments.kept is not None:
@@ -65,6 +65,7 @@ class Nightly:
         live = self._gathered(self._request)
         source = self._gathered(replace(self._request, policy=self._policy))
         live_zone, zone = live.world.zone(), source.world.zone()
+        command_line.warn(TOOL, self._program, self._domain, self._reading, self._beside, zone)
         wanted = self._compiled(_NOBODYS_LABEL, zone)
         if wanted.status:
             return self._refused(wanted, zone)
@@ -174,12 +175,14 @@ def _parser() -> Parser:
 
 
 def _judge(program: Program, arguments: argparse.Namespace) -> None:
-    """Has the program say whether it takes the words, and whether it has the commands that they need."""
+    """Judges the files, and has the program say whether it takes the words and has the commands that they need."""
     reading = command_line.spfc_options(arguments, READING)
+    command_line.judge_files(arguments.output, (arguments.policy, arguments.kept), arguments.beside)
+    command_line.judge_files(arguments.kept, (arguments.policy,), arguments.beside)
     for label in arguments.labels:
         options = [*reading, *command_line.spfc_options(arguments, _CUTTING), "--label", label]
         command_line.judge(program, ["compile", arguments.domain, *options, *arguments.beside])
-    if Request(arguments.domain, beside=arguments.beside).is_beside(read(arguments.domain)):
+    if Request((arguments.domain,), beside=arguments.beside).is_beside(read(arguments.domain)):
         raise Ending(
             NightlyStatus.USAGE, f"the zone of {arguments.domain} is not to be a file: DNS says what is published"
         )
@@ -191,6 +194,7 @@ def _judge(program: Program, arguments: argparse.Namespace) -> None:
             raise Ending(NightlyStatus.TOOL, f"{program.path} has no command {command}")
     if arguments.max_lost is not None and not program.knows("compare", arguments.domain, arguments.domain, *reading):
         raise Ending(NightlyStatus.TOOL, f"{program.path} has no command compare, which --max-lost needs")
+    command_line.judge_zones(program, arguments.domain, reading, arguments.beside)
 
 
 def _run(words: Sequence[str]) -> int:
@@ -198,8 +202,9 @@ def _run(words: Sequence[str]) -> int:
     arguments = command_line.parse(_parser(), words)
     with opened_program() as program:
         _judge(program, arguments)
+        night = Nightly(arguments, program)
         try:
-            return Nightly(arguments, program).run()
+            return night.run()
         except Ending as ending:
             if ending.status in (NightlyStatus.USAGE, NightlyStatus.UNWRITTEN):
                 raise

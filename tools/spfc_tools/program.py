@@ -61,8 +61,12 @@ class Program:
 
     def over(self, words: Sequence[str], zone: str) -> Run:
         """Runs the program with these words, and with this text as the zone of the root."""
+        return self.run([*words, *self.zones_of(zone)])
+
+    def zones_of(self, zone: str, beside: Sequence[str] = ()) -> list[str]:
+        """The zone words for this text as the zone of the root, after those for others."""
         self._zone.write_text(zone, encoding="latin-1")
-        return self.run([*words, *self.zones()])
+        return self.zones(beside)
 
     def zones(self, beside: Sequence[str] = ()) -> list[str]:
         """The zone words for that zone, behind those for others."""
