@@ -14,6 +14,10 @@ _LINE = "see what `spfc-explain` says of that line"
 
 TOOL_LINES: Mapping[str, Entry] = {
     # spfc-gather
+    "no answer NAME KIND: WHY; give the zone as a file: ZONE": Entry(
+        "a list of senders by address is read by zone transfer, and no server transfers its zone",
+        "ask the firm for the zone or for the right to transfer it, and name its file",
+    ),
     "no answer NAME KIND: WHY": Entry(
         "no name server answered this question; WHY is how the last try failed",
         f"{_AGAIN}; if the name is gone for good, take the term out of the policy",
@@ -59,6 +63,7 @@ TOOL_LINES: Mapping[str, Entry] = {
     ),
     "spfc does not take these words: WORDS": Entry("spfc prints `usage` for these words", _WORDS),
     "spfc deps does not take these words: WORDS": Entry("spfc prints `usage` for these words", _WORDS),
+    "spfc COMMAND wrote no list": Entry("the program does not fit the tools", "install both anew"),
     "spfc COMMAND ended with N: LINE": Entry("spfc, which the tool ran, refused its input", _LINE),
     "expected WHAT, got WORD": Entry("a word of the command line is wrong", _WORDS),
     "argument OPTION: WHY": Entry("the option has no value, or one that it does not take", _WORDS),
