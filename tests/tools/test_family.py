@@ -8,7 +8,7 @@ import pytest
 from servers import Server, free_port
 from spfc_tools.commands import COMMANDS
 from spfc_tools.texts import why_no_policy
-from spfc_tools.tool_lines import TOOL_LINES, read_tool_line
+from spfc_tools.tool_lines import PUBLISH_LINES, TOOL_LINES, read_tool_line
 from workplace import TOP, Ended, Workplace
 
 _SAMPLES = {
@@ -35,13 +35,13 @@ def _sample(form: str) -> str:
 # ------------------------------------------------------------- lines of the tools
 
 
-@pytest.mark.parametrize("form", TOOL_LINES)
+@pytest.mark.parametrize("form", [*TOOL_LINES, *PUBLISH_LINES])
 def test_form(form: str) -> None:
     """Each form of the table is read as itself, with and without the name of a tool."""
     for prefix in ("", "spfc-gather: ", "spfc-nightly: warning: "):
         line = read_tool_line(prefix + _sample(form))
         assert line is not None
-        assert line.entry == TOOL_LINES[form].plain
+        assert line.entry == {**TOOL_LINES, **PUBLISH_LINES}[form].plain
 
 
 @pytest.mark.parametrize(
@@ -236,5 +236,5 @@ def _text_of(argument: ast.expr) -> str:
 @pytest.mark.parametrize(("module", "message"), dict.fromkeys(_messages()))
 def test_every_message_is_known(module: str, message: str) -> None:
     """No message with which a tool ends is missing in the table."""
-    samples = ("7", "a.example.com", "spfc: A", "deps", ": it")
+    samples = ("7", "a.example.com", "spfc: A", "deps", ": it", "A")
     assert any(read_tool_line(message.replace("{}", sample)) for sample in samples), f"{module}: {message}"
