@@ -130,6 +130,8 @@ def add_server_options(parser: Parser) -> None:
     ):
         text = f"{purpose}, by default {default}"
         group.add_argument(*flags, dest=name, metavar=metavar, type=positive, default=default, help=text)
+    validated = "take only replies that the server has validated by DNSSEC (AD bit)"
+    group.add_argument("--require-ad", action="store_true", help=validated)
     log = "log each question and its reply to standard error"
     group.add_argument("-v", "--verbose", action="store_true", help=log)
 
@@ -177,7 +179,8 @@ def parse(parser: Parser, words: Sequence[str]) -> argparse.Namespace:
 def resolver(arguments: argparse.Namespace) -> Resolver:
     """The servers to ask, and how."""
     how = (arguments.port, arguments.tries, float(arguments.time), arguments.jobs)
-    return Resolver(addresses(arguments.server), *how, are_named=arguments.server is not None)
+    are_named = arguments.server is not None
+    return Resolver(addresses(arguments.server), *how, are_named=are_named, is_validated=arguments.require_ad)
 
 
 # ------------------------------------------------------------- words for spfc
