@@ -1,5 +1,6 @@
 """What the tests of the tools share: options, name servers for a session, and a workplace for each test."""
 
+import itertools
 import os
 import shutil
 import sys
@@ -49,12 +50,20 @@ def _needs(item: pytest.Item) -> set[str]:
 
 
 def pytest_collection_modifyitems(config: pytest.Config, items: list[pytest.Item]) -> None:
-    """Leaves out what --without names, and puts the tests that take longest first, so that no worker ends late."""
+    """Leaves out what --without names, and spreads the tests that take longest, so that no worker ends late."""
     without = set(config.getoption("without"))
     left_out = [item for item in items if _needs(item) & without]
     config.hook.pytest_deselected(items=left_out)
-    items[:] = [item for item in items if not _needs(item) & without]
-    items.sort(key=lambda item: item.get_closest_marker("slow") is None)
+    kept = [item for item in items if not _needs(item) & without]
+    slow = [item for item in kept if item.get_closest_marker("slow")]
+    items[:] = _spread(slow, [item for item in kept if not item.get_closest_marker("slow")])
+
+
+def _spread(slow: list[pytest.Item], quick: list[pytest.Item]) -> list[pytest.Item]:
+    """All tests, the slow ones evenly over the first quarter: pytest-xdist first gives each worker a part of this."""
+    gap = len(quick) // 4 // max(len(slow), 1)
+    chunks = ([item, *quick[number * gap : (number + 1) * gap]] for number, item in enumerate(slow))
+    return [*itertools.chain.from_iterable(chunks), *quick[len(slow) * gap :]]
 
 
 def pytest_runtest_setup(item: pytest.Item) -> None:

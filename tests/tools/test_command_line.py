@@ -28,13 +28,13 @@ def _parsed(*words: str) -> argparse.Namespace:
 def test_servers_and_zones() -> None:
     """The server and the zones, in any order."""
     arguments = _parsed("a.test=one", "@192.0.2.53", "-p", "5353", "b.test=two")
-    assert (arguments.server, arguments.port, arguments.beside) == ("192.0.2.53", 5353, ("a.test=one", "b.test=two"))
+    assert (arguments.server, arguments.port, arguments.zones) == ("192.0.2.53", 5353, ("a.test=one", "b.test=two"))
 
 
 def test_defaults() -> None:
     """Without words the resolvers of the machine are asked at port 53."""
     arguments = _parsed()
-    assert (arguments.server, arguments.beside, arguments.port, arguments.tries) == (None, (), 53, 3)
+    assert (arguments.server, arguments.zones, arguments.port, arguments.tries) == (None, (), 53, 3)
 
 
 @pytest.mark.parametrize(

@@ -44,7 +44,7 @@ def _words(name: str) -> list[str]:
 def _is_taken(workplace: Workplace, name: str, *options: str) -> bool:
     """Whether the program takes the command with these options."""
     workplace.write("zone", _ZONE)
-    zones = ["example.com=zone"] if COMMANDS[name].behind else []
+    zones = ["example.com=zone"] if COMMANDS[name].zones else []
     return workplace.spfc(*_words(name), *options, *zones).status != _USAGE
 
 

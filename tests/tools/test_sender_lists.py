@@ -5,7 +5,7 @@ from pathlib import Path
 import pytest
 from spfc_tools import names
 from spfc_tools.facts import Kind, Question
-from spfc_tools.sender_lists import answers_for_some, leads_to_some, targets_beside
+from spfc_tools.sender_lists import answers_for_some, leads_to_some, targets_in_files
 
 _DIGITS = ".".join("0" * 32)
 
@@ -41,5 +41,5 @@ def test_targets_in_a_file(tmp_path: Path) -> None:
     zone = tmp_path / "zone"
     zone.write_text("10.2.0.192.list CNAME a.other.test.\nx.list CNAME b.other.test.\n11.2.0.192.list A 127.0.0.2\n")
     question = Question(names.read("list.own.test"), Kind.REVERSE4)
-    assert list(targets_beside([f"own.test={zone}"], question)) == [names.read("a.other.test")]
-    assert list(targets_beside([f"other.test={zone}"], question)) == []
+    assert list(targets_in_files([f"own.test={zone}"], question)) == [names.read("a.other.test")]
+    assert list(targets_in_files([f"other.test={zone}"], question)) == []

@@ -30,7 +30,7 @@ def _all(program: Program, words: Words) -> Iterator[list[str]]:
 
 def _is_taken(program: Program, command: str, places: Sequence[str], *options: str, zone: str = _ZONE) -> bool:
     """Whether spfc takes these words, with a zone if the command has any."""
-    zones = [zone] if COMMANDS[command].behind else []
+    zones = [zone] if COMMANDS[command].zones else []
     return program.run([command, *places, *options, *zones]).status != USAGE
 
 
@@ -98,7 +98,7 @@ def _options(program: Program, words: Words) -> list[str]:
 
 
 def _zones(program: Program, words: Words) -> list[str]:
-    if not COMMANDS[words.command].behind:
+    if not COMMANDS[words.command].zones:
         return [f"The command {words.command} reads no zones: {words.zones[0]}."] if words.zones else []
     origins: set[str] = set()
     for word in words.zones:
