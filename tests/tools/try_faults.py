@@ -57,10 +57,10 @@ def faults(names: Sequence[str]) -> Iterator[Fault]:
 
 
 def _run_tests(tests: Sequence[str], program: Path, *options: str) -> subprocess.CompletedProcess[str]:
-    """Runs tests of this folder."""
-    command = [sys.executable, "-m", "pytest", "-q", "-p", "no:cacheprovider", "--program", str(program), *options]
+    """Runs tests of this folder. Their names come first: by them pytest finds the file that knows the options."""
     nodes = [str(_HERE / test) for test in tests]
-    return subprocess.run([*command, *nodes], cwd=TOP, capture_output=True, text=True, check=False)
+    command = [sys.executable, "-m", "pytest", *nodes, "-q", "-p", "no:cacheprovider", f"--program={program}", *options]
+    return subprocess.run(command, cwd=TOP, capture_output=True, text=True, check=False)
 
 
 def _try(fault: Fault, program: Path) -> str | None:
@@ -68,7 +68,7 @@ def _try(fault: Fault, program: Path) -> str | None:
     with tempfile.TemporaryDirectory(prefix="spfc-fault-") as folder:
         tree = Path(folder) / "tree"
         fault.plant(tree)
-        ended = _run_tests(fault.seen_by, program, "--numprocesses=0", "--exitfirst", "--tree", str(tree))
+        ended = _run_tests(fault.seen_by, program, "--numprocesses=0", "--exitfirst", f"--tree={tree}")
     failed = [line for line in ended.stdout.splitlines() if line.startswith("FAILED ")]
     return failed[0] if ended.returncode == _TESTS_FAILED and failed else None
 
