@@ -8,6 +8,7 @@ use Rattle.loading.specs.declared.loaded.Loaded.{Loaded}
 use Rattle.publishing.specs.Policy.{PolicyDue}
 use Rattle.jobs.specs.compile.Meaning.{AreTraced, IsOutput}
 use Rattle.jobs.specs.declared.compile.Compile.{Compile}
+use Rattle.jobs.specs.declared.output.Output.{Output}
 
 -- with `--trace` the questions are
 pub traced_output : (job : Compile) (loaded : Loaded) (bytes : List ℕ) (asked : List Question) → job.trace ≡ true
@@ -18,8 +19,10 @@ traced_output job loaded bytes asked traced written are =
     record { written = written; traced = subst (λ t. AreTraced t job loaded asked) (sym traced) are }
 
 -- without it nothing is
-pub untraced_output : (job : Compile) (loaded : Loaded) (bytes : List ℕ) (asked : List Question) → job.trace ≡ false
-    → PolicyDue job.settings job.limits loaded.zones (Ok bytes) → asked ≡ []
-    → IsOutput job loaded (record { bytes = bytes; asked = asked })
-untraced_output job loaded bytes asked untraced written none =
-    record { written = written; traced = subst (λ t. AreTraced t job loaded asked) (sym untraced) none }
+pub untraced_output : (job : Compile) (loaded : Loaded) (bytes : List ℕ) (output : Output) → job.trace ≡ false
+    → PolicyDue job.settings job.limits loaded.zones (Ok bytes) → output.bytes ≡ bytes → output.asked ≡ []
+    → IsOutput job loaded output
+untraced_output job loaded bytes output untraced written same none = record {
+  written = subst (λ b. PolicyDue job.settings job.limits loaded.zones (Ok b)) (sym same) written;
+  traced = subst (λ t. AreTraced t job loaded output.asked) (sym untraced) none;
+}

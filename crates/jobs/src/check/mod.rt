@@ -17,7 +17,7 @@ use spfc_words::{
     read_limits, split_first,
 };
 use std::alloc::{AllocError, Global};
-use zone_answers::{Questions, Zones};
+use zone_answers::Zones;
 
 /// What check_host gives one address (RFC 7208, section 4).
 #[derive(Debug, Drop)]
@@ -69,10 +69,7 @@ impl Job for Check {
             self.address,
             self.limits,
         )?;
-        Ok(Output {
-            bytes,
-            asked: Questions::new(alloc),
-        })
+        Ok(Output::of(alloc, bytes))
     }
 }
 

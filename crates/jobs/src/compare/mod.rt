@@ -22,7 +22,7 @@ use spfc_words::{
     Domain, Group, Input, READING, behind_options, read_domain, read_limits, split_first,
 };
 use std::alloc::{AllocError, Global};
-use zone_answers::{Questions, Zones};
+use zone_answers::Zones;
 
 /// What two policies say differently. The first is that of the one domain over the zones of the first group; the second
 /// is that of the other domain over the zones of the second group, or over the same zones where there is none.
@@ -75,10 +75,7 @@ impl Job for Compare {
         let two = policy_verdicts(alloc, zones, self.limits, second).map_err(Refusal::from_fault)?;
         let changes = compare(alloc, &one.tries, &two.tries)?;
         let bytes = write_changes(alloc, changes.as_slice())?;
-        Ok(Output {
-            bytes,
-            asked: Questions::new(alloc),
-        })
+        Ok(Output::of(alloc, bytes))
     }
 }
 

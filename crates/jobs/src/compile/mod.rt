@@ -15,7 +15,6 @@ use spfc_words::{
     push_zone_words, read_flag, read_limits, split_first,
 };
 use std::alloc::{AllocError, Global};
-use zone_answers::Questions;
 
 /// `--trace`: the questions are told to listeners.
 const TRACE: FlagRow = FlagRow { name: "--trace" };
@@ -73,10 +72,7 @@ impl Job for Compile {
     fn perform(&self, alloc: Global, loaded: &Loaded) -> Result<Output, OrMemory<Refusal>> {
         match publish_policy(alloc, &loaded.zones, &self.settings, self.limits) {
             Ok(Publication { bytes, asked }) if self.trace => Ok(Output { bytes, asked }),
-            Ok(Publication { bytes, .. }) => Ok(Output {
-                bytes,
-                asked: Questions::new(alloc),
-            }),
+            Ok(Publication { bytes, .. }) => Ok(Output::of(alloc, bytes)),
             Err(why) => Err(why),
         }
     }

@@ -12,7 +12,7 @@ use spf_model::Limits;
 use spfc_words::{Input, Subject};
 use std::alloc::{AllocError, Global};
 use symbolic_check::evaluate;
-use zone_answers::{Question, Questions, Zones};
+use zone_answers::{Question, Zones};
 
 /// The questions that check_host asks for some address (RFC 7208, section 4).
 #[derive(Debug, Drop)]
@@ -54,10 +54,7 @@ impl Job for Deps {
             self.subject.limits,
             self.subject.domain.text.as_slice(),
         )?;
-        Ok(Output {
-            bytes,
-            asked: Questions::new(alloc),
-        })
+        Ok(Output::of(alloc, bytes))
     }
 }
 

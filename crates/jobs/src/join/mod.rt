@@ -23,7 +23,6 @@ use spfc_words::{
     push_zone_words, read_flag, read_limits, split_first,
 };
 use std::alloc::{AllocError, Global};
-use zone_answers::Questions;
 
 /// `--weakest`: each address gets the weakest of its verdicts.
 const WEAKEST: FlagRow = FlagRow { name: "--weakest" };
@@ -84,10 +83,7 @@ impl Job for Join {
         let all = verdicts_of_all(alloc, zones, self.limits, domains).map_err(Refusal::from_fault)?;
         let joined = join(alloc, &all, self.weakest)?;
         let bytes = publish(alloc, &loaded.zones, &self.settings, &joined)?;
-        Ok(Output {
-            bytes,
-            asked: Questions::new(alloc),
-        })
+        Ok(Output::of(alloc, bytes))
     }
 }
 

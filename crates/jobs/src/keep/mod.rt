@@ -6,7 +6,6 @@ use loading::Loaded;
 use refusals::Refusal;
 use spfc_words::{Input, Subject};
 use std::alloc::{AllocError, Global};
-use zone_answers::Questions;
 
 /// The kept list of a domain: the questions that check_host (RFC 7208, section 4) asks for some address, each with what
 /// the zones say to it.
@@ -49,9 +48,6 @@ impl Job for Keep {
             self.subject.limits,
             self.subject.domain.text.as_slice(),
         )?;
-        Ok(Output {
-            bytes,
-            asked: Questions::new(alloc),
-        })
+        Ok(Output::of(alloc, bytes))
     }
 }

@@ -14,7 +14,7 @@ use loading::Loaded;
 use refusals::{Refusal, copied, line};
 use spfc_words::{Group, Input, Inputs, push_file, push_zone_words, split_first};
 use std::alloc::{AllocError, Global};
-use zone_answers::{Questions, Zones};
+use zone_answers::Zones;
 
 /// Whether the zones say to each question of a kept list what was kept of it.
 #[derive(Debug, Drop)]
@@ -53,10 +53,10 @@ impl Job for Stale {
 
     fn perform(&self, alloc: Global, loaded: &Loaded) -> Result<Output, OrMemory<Refusal>> {
         match read_kept(alloc, loaded.file.as_slice()) {
-            Ok(kept) => Ok(Output {
-                bytes: watch_line(alloc, &loaded.zones, &kept)?,
-                asked: Questions::new(alloc),
-            }),
+            Ok(kept) => {
+                let bytes = watch_line(alloc, &loaded.zones, &kept)?;
+                Ok(Output::of(alloc, bytes))
+            }
             Err(KeptFault::NotKept { line }) => {
                 let file = copied(alloc, self.file.as_slice())?;
                 Err(OrMemory::Error(Refusal::BadList { file, line }))

@@ -12,7 +12,6 @@ use policy_trial::run_trial;
 use refusals::Refusal;
 use spfc_words::{Input, Inputs, parse_number};
 use std::alloc::{AllocError, Global};
-use zone_answers::Questions;
 
 /// The most networks of a trial.
 const MOST_NETWORKS: u64 = 10_000;
@@ -67,9 +66,6 @@ impl Job for Trial {
     fn perform(&self, alloc: Global, _loaded: &Loaded) -> Result<Output, OrMemory<Refusal>> {
         let summary = run_trial(alloc, self.start, self.networks)?;
         let bytes = write_line(alloc, self.start, self.networks, &summary)?;
-        Ok(Output {
-            bytes,
-            asked: Questions::new(alloc),
-        })
+        Ok(Output::of(alloc, bytes))
     }
 }

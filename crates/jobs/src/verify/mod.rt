@@ -18,7 +18,6 @@ use spfc_words::{
     push_zone_words, read_domain, read_limits, read_number, split_first,
 };
 use std::alloc::{AllocError, Global};
-use zone_answers::Questions;
 
 /// The options of the job: those of the reading limits, and the size of a record.
 const OPTIONS: &[Row] = &[
@@ -81,10 +80,10 @@ impl Job for Verify {
             self.size,
             loaded.file.as_slice(),
         ) {
-            Ok(yes) => Ok(Output {
-                bytes: yes_line(alloc, yes)?,
-                asked: Questions::new(alloc),
-            }),
+            Ok(yes) => {
+                let bytes = yes_line(alloc, yes)?;
+                Ok(Output::of(alloc, bytes))
+            }
             Err(no) => Err(refused(no)),
         }
     }

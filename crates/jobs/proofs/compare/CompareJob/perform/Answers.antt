@@ -22,7 +22,7 @@ returns c =
     let two = rw (c.as_slice-2.ensures, c.zones_of-others.ensures) at c.in_ok-two.ensures.kept in
     record {
       done = compared_output c.args.self.now c.args.loaded.now c.in_ok-one.one.tries.v4 c.in_ok-one.one.tries.v6 c.in_ok-two.two.tries.v4 c.in_ok-two.two.tries.v6 c.in_ok-changes.changes
-          (record { bytes = c.in_ok-bytes.bytes; asked = c.new.result }) one two c.in_ok-changes.ensures
-          (c.in_ok-bytes.ensures ∙ ap (λ (changes : List Change). changes_text changes) c.as_slice-3.ensures) c.new.ensures;
+          c.of.result one two c.in_ok-changes.ensures
+          (c.of.ensures.written ∙ (c.in_ok-bytes.ensures ∙ ap (λ (changes : List Change). changes_text changes) c.as_slice-3.ensures)) c.of.ensures.untold;
       refused = tt;
     }

@@ -10,7 +10,7 @@ returns-in-Ok c = record {
 
 pub returns-in-Ok-2 : goal.returns-in-Ok-2
 returns-in-Ok-2 c = record {
-  done = untraced_output c.args.self.now c.args.loaded.now c.in-Ok.field-0.bytes c.new.result c.if-self.false
-      c.in-Ok.ensures.written c.new.ensures;
+  done = untraced_output c.args.self.now c.args.loaded.now c.in-Ok.field-0.bytes c.of.result c.if-self.false
+      c.in-Ok.ensures.written c.of.ensures.written c.of.ensures.untold;
   refused = tt;
 }

@@ -17,7 +17,7 @@ returns-in_err-bytes c =
 
 pub returns : goal.returns
 returns c = record {
-  done = join_written c.args.self.now c.args.loaded.now c.in_ok-all.all c.in_ok-joined.joined (record { bytes = c.in_ok-bytes.bytes; asked = c.new.result })
-      (rw c.as_slice.ensures at c.in_ok-all.ensures.kept) c.in_ok-joined.ensures c.in_ok-bytes.ensures.written c.new.ensures;
+  done = join_written c.args.self.now c.args.loaded.now c.in_ok-all.all c.in_ok-joined.joined c.of.result
+      (rw c.as_slice.ensures at c.in_ok-all.ensures.kept) c.in_ok-joined.ensures (rw c.of.ensures.written c.in_ok-bytes.ensures.written) c.of.ensures.untold;
   refused = tt;
 }

@@ -5,13 +5,13 @@ use Rattle.jobs.specs.stale.Meaning.{said, unlisted}
 use Rattle.jobs.proofs.StaleFaults.{unread}
 use Rattle.jobs.proofs.stale.StaleJob.perform.Goals as goal
 
-pub returns-in_ok-watch_line-in-Ok : goal.returns-in_ok-watch_line-in-Ok
-returns-in_ok-watch_line-in-Ok c = record {
-  done = said (record { bytes = c.in_ok-watch_line-in-Ok.field-0; asked = c.new.result }) (record {
+pub returns-in_ok-bytes-in-Ok : goal.returns-in_ok-bytes-in-Ok
+returns-in_ok-bytes-in-Ok c = record {
+  done = said c.of.result (record {
     kept = c.in-Ok.kept;
     read = rw c.as_slice.ensures at c.in-Ok.ensures.kept;
-    line = c.in_ok-watch_line-in-Ok.ensures;
-    untold = c.new.ensures;
+    line = rw c.of.ensures.written c.in_ok-bytes-in-Ok.ensures;
+    untold = c.of.ensures.untold;
   }) refl;
   refused = tt;
 }

@@ -3,13 +3,13 @@ use Rattle.jobs.proofs.VerifyDenials.{denial_due}
 use Rattle.jobs.specs.verify.Meaning.{accepted}
 use Rattle.jobs.proofs.verify.VerifyJob.perform.Goals as goal
 
-pub returns-in_ok-yes_line-in-Ok : goal.returns-in_ok-yes_line-in-Ok
-returns-in_ok-yes_line-in-Ok c = record {
-  done = accepted (record { bytes = c.in_ok-yes_line-in-Ok.field-0; asked = c.new.result }) (record {
+pub returns-in_ok-bytes-in-Ok : goal.returns-in_ok-bytes-in-Ok
+returns-in_ok-bytes-in-Ok c = record {
+  done = accepted c.of.result (record {
     counts = c.in-Ok.yes;
     certified = rw (c.as_slice-domain.ensures, c.as_slice.ensures) at c.in-Ok.ensures.certified;
-    line = c.in_ok-yes_line-in-Ok.ensures;
-    untold = c.new.ensures;
+    line = rw c.of.ensures.written c.in_ok-bytes-in-Ok.ensures;
+    untold = c.of.ensures.untold;
   }) refl;
   refused = tt;
 }
