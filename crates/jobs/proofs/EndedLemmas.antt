@@ -14,7 +14,7 @@ use Rattle.jobs.specs.Given.{Given, IsGiven, JobDue, Behind, IsReadFault, tells,
 use Rattle.jobs.specs.Given.{Writes, Says, spoken, WordsDue, no_job, job, OneIsDue}
 use Rattle.jobs.specs.Turn.{Turn, given_of, Gains, Ended, done, told, unwritten, untold, no_memory, unheard}
 use Rattle.jobs.specs.Turn.{HasDone, HasBest, HasFound, HasUsage, HasReadFault, HasWriteFault, HasNone, IsFindingStatus}
-use Rattle.jobs.specs.Turn.{IsComplete, IsAssured}
+use Rattle.jobs.specs.Turn.{IsComplete, IsAssured, Promises}
 
 -- ---- statuses
 pub finding_status : (why : Refusal) → IsFindingStatus (refusal_status why)
@@ -196,6 +196,20 @@ assured_of {p = p} {t = t} (untold due line is a b c same) tell sure =
     ]
 assured_of (no_memory is a b same) tell sure = inr is
 assured_of (unheard output is is_given a b c) tell sure = inr is
+
+pub promises_of : {p : Program} {t : Turn} {status : ℕ} → Ended p t status → Promises p t status
+promises_of ended = record {
+  range = range_of ended;
+  done = done_of ended;
+  best = best_of ended;
+  finding = finding_of ended;
+  usage = usage_of ended;
+  read_fault = read_fault_of ended;
+  write_fault = write_fault_of ended;
+  memory = memory_of ended;
+  complete = complete_of ended;
+  assured = assured_of ended;
+}
 
 -- ---- one thing is due
 one_behind : (m : Meaning) → IsLawful m → (x y : Result Loaded Refusal) (a b : Due) → x ≡ y → Behind x m.IsDue a
