@@ -8,9 +8,9 @@ use Rattle.addr_bits.specs.declared.address.Family.TheVariants.{V4, V6}
 use Rattle.zone_answers.specs.Questions.{reversed_kind}
 use Rattle.zone_answers.specs.Zone.{Zone}
 use Rattle.zone_answers.specs.declared.ask_kind.AskKind.{AskKind}
-use Rattle.kept_lists.specs.declared.kept.KeptLine.{KeptLine}
-use Rattle.kept_lists.specs.Alike.{IsReversedText, IsText, IsTextAt}
-use Rattle.kept_lists.specs.Lists.{Agrees}
+use Rattle.deps_watch.specs.declared.kept.KeptLine.{KeptLine}
+use Rattle.deps_watch.specs.Alike.{IsReversedText, IsText, IsTextAt}
+use Rattle.deps_watch.specs.Lists.{Agrees}
 use Rattle.deps_watch.specs.Freshness.{Differs, IsAgreement, IsFirstStale}
 use Rattle.deps_watch.specs.Reversals.{IsReversedAgreement}
 

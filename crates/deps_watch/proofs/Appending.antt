@@ -7,10 +7,9 @@ use Rattle.dns_name.proofs.Octets.{all_append}
 use Rattle.zone_answers.specs.Questions.{question_text}
 use Rattle.zone_answers.specs.Zone.{Zone}
 use Rattle.zone_answers.specs.declared.answer.Question.{Question}
-use Rattle.kept_lists.specs.declared.kept.KeptLine.{KeptLine}
-use Rattle.kept_lists.specs.Alike.{IsText}
-use Rattle.kept_lists.specs.Laws.{IsKeepable}
-use Rattle.kept_lists.specs.Lists.{Agrees, AreAnswered, line_text, lines_text}
+use Rattle.deps_watch.specs.declared.kept.KeptLine.{KeptLine}
+use Rattle.deps_watch.specs.Alike.{IsText}
+use Rattle.deps_watch.specs.Lists.{Agrees, AreAnswered, IsKeepable, line_text, lines_text}
 use Rattle.deps_watch.specs.Keeping.{AppendsLines}
 
 pub none_appended : (zones : List Zone) (old : List ℕ) → AppendsLines zones [] old old

@@ -13,10 +13,10 @@ use Rattle.spf_model.specs.declared.outcome.Limits.{Limits}
 use Rattle.spf_model.specs.declared.outcome.Outcome.{Outcome}
 use Rattle.spfc_words.proofs.Domains.{domain_is_name}
 use Rattle.symbolic_check.specs.Evaluation.{IsEvaluation}
-use Rattle.kept_lists.specs.Lists.{AreReadingLimits, HasRoom, IsKeptDomain}
+use Rattle.deps_watch.specs.Lists.{AreReadingLimits, HasRoom, IsKeptDomain}
 use Rattle.deps_watch.specs.Keeping.{AppendsLines, IsKeptOf}
 use Rattle.deps_watch.proofs.Room.{is_asked_room}
-use Rattle.kept_lists.specs.Lists.{header_text, kept_text, lines_text}
+use Rattle.deps_watch.specs.Lists.{header_text, kept_text, lines_text}
 
 pub kept_named : (domain : List ℕ) → IsKeptDomain domain → IsOk (name_of_text domain)
 kept_named domain h = subst (λ (t : List ℕ). IsOk (name_of_text t)) h.lower (domain_is_name domain h.form)

@@ -26,15 +26,14 @@ use Rattle.symbolic_check.specs.Evaluation.{IsEvaluation}
 use Rattle.symbolic_check.proofs.Rests.{rests_on_asked}
 use Rattle.policy_verdicts.proofs.OrderedQuestions.{one_list_asked}
 use Rattle.bound_table.specs.Reading.{lines_of}
-use Rattle.kept_lists.specs.declared.kept.Kept.{Kept}
-use Rattle.kept_lists.specs.declared.kept.KeptLine.{KeptLine}
-use Rattle.kept_lists.specs.Alike.{AreAlikeAt, AreReversedAlike, IsText}
-use Rattle.kept_lists.specs.Laws.{IsKeepable, IsKeep}
-use Rattle.kept_lists.specs.Lists.{Agrees, AreAnswered, AreReadingLimits, IsKeptDomain, kept_text}
-use Rattle.kept_lists.specs.Reading.{AreKept}
-use Rattle.kept_lists.proofs.OneList.{one_list as one_reading}
-use Rattle.kept_lists.proofs.ReadBack.{kept_is_read}
-use Rattle.kept_lists.proofs.Tell.{one_text, texts_alike}
+use Rattle.deps_watch.specs.declared.kept.Kept.{Kept}
+use Rattle.deps_watch.specs.declared.kept.KeptLine.{KeptLine}
+use Rattle.deps_watch.specs.Alike.{AreAlikeAt, AreReversedAlike, IsText}
+use Rattle.deps_watch.specs.Lists.{Agrees, AreAnswered, AreReadingLimits, IsKeep, IsKeepable, IsKeptDomain, kept_text}
+use Rattle.deps_watch.specs.Reading.{AreKept}
+use Rattle.deps_watch.proofs.OneList.{one_list as one_reading}
+use Rattle.deps_watch.proofs.ReadBack.{kept_is_read}
+use Rattle.deps_watch.proofs.Tell.{one_text, texts_alike}
 use Rattle.deps_watch.specs.Keeping.{IsKeptOf}
 use Rattle.deps_watch.specs.Laws.{FreshKeeps, IsKeptWell, KeepsWell, OneWatch, SameOutcomes}
 use Rattle.deps_watch.proofs.Watching.{one_freshness}

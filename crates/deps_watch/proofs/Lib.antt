@@ -1,3 +1,15 @@
+pub mod OneTrie
+pub mod Rows
+pub mod Marks
+pub mod Items
+pub mod AnswerKinds
+pub mod Tell
+pub mod OneList
+pub mod ReadBack
+pub mod WordRanges
+pub mod LinesRead
+pub mod LineParts
+pub mod Steps
 pub mod Agreeing
 pub mod Room
 pub mod Watching

@@ -42,7 +42,7 @@ use Rattle.spf_model.specs.Check as checking
 use Rattle.spf_model.specs.Check.{check, check_host}
 use Rattle.spf_model.specs.Result.{IsAsked}
 use Rattle.spf_model.proofs.Suffixes.{short_name}
-use Rattle.kept_lists.specs.Lists.{HasRoom}
+use Rattle.deps_watch.specs.Lists.{HasRoom}
 
 -- each question that the run may ask has room
 abbrev pub IsRoomy : Run → Type 0

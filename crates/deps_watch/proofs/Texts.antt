@@ -6,7 +6,7 @@ use Rattle.addr_bits.specs.declared.address.Family.{Family}
 use Rattle.zone_answers.specs.Same.{same_name}
 use Rattle.zone_answers.specs.Zone.{Zone}
 use Rattle.zone_answers.proofs.Nodes.{same_true}
-use Rattle.kept_lists.specs.Alike.{IsReversedText}
+use Rattle.deps_watch.specs.Alike.{IsReversedText}
 use Rattle.deps_watch.specs.Reversals.{AreTexts}
 
 abbrev Rows : Type 0

@@ -3,9 +3,9 @@ use Rattle.std.proofs.Common.{◌≡◌, ◌≢◌, ℕ, suc, ◌+◌, Bool, tru
 use Rattle.std.specs.List.{AllByRecursion}
 use Rattle.dns_name.proofs.Octets.{all_back}
 use Rattle.zone_answers.specs.Zone.{Zone}
-use Rattle.kept_lists.specs.declared.kept.KeptLine.{KeptLine}
-use Rattle.kept_lists.specs.Lists.{Agrees}
-use Rattle.kept_lists.proofs.Tell.{one_text}
+use Rattle.deps_watch.specs.declared.kept.KeptLine.{KeptLine}
+use Rattle.deps_watch.specs.Lists.{Agrees}
+use Rattle.deps_watch.proofs.Tell.{one_text}
 use Rattle.deps_watch.specs.declared.fresh.Freshness.{Freshness}
 use Rattle.deps_watch.specs.declared.fresh.Freshness.TheVariants.{Fresh, Stale}
 use Rattle.deps_watch.specs.Freshness.{Differs, IsFirstStale, IsFreshness}

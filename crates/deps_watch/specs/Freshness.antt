@@ -2,9 +2,9 @@
 use Rattle.std.specs.Prelude.{◌≡◌, ◌≢◌, ℕ, ◌+◌, Bool, true, false, List, ◌∷◌, ◌++◌, length}
 use Rattle.std.specs.List.{AllByRecursion}
 use Rattle.zone_answers.specs.Zone.{Zone}
-use Rattle.kept_lists.specs.declared.kept.KeptLine.{KeptLine}
-use Rattle.kept_lists.specs.Alike.{IsText}
-use Rattle.kept_lists.specs.Lists.{Agrees}
+use Rattle.deps_watch.specs.declared.kept.KeptLine.{KeptLine}
+use Rattle.deps_watch.specs.Alike.{IsText}
+use Rattle.deps_watch.specs.Lists.{Agrees}
 use Rattle.deps_watch.specs.declared.fresh.Freshness.{Freshness}
 use Rattle.deps_watch.specs.declared.fresh.Freshness.TheVariants.{Fresh, Stale}
 

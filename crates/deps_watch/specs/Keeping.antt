@@ -8,10 +8,9 @@ use Rattle.spf_model.specs.Run.{says}
 use Rattle.spf_model.specs.declared.outcome.Limits.{Limits}
 use Rattle.spf_model.specs.declared.outcome.Outcome.{Outcome}
 use Rattle.symbolic_check.specs.Evaluation.{IsEvaluation}
-use Rattle.kept_lists.specs.declared.kept.Kept.{Kept}
-use Rattle.kept_lists.specs.declared.kept.KeptLine.{KeptLine}
-use Rattle.kept_lists.specs.Laws.{IsKeepable}
-use Rattle.kept_lists.specs.Lists.{AreAnswered, kept_text, lines_text}
+use Rattle.deps_watch.specs.declared.kept.Kept.{Kept}
+use Rattle.deps_watch.specs.declared.kept.KeptLine.{KeptLine}
+use Rattle.deps_watch.specs.Lists.{AreAnswered, IsKeepable, kept_text, lines_text}
 
 -- RFC 7208, section 4, and the project's own format: the bytes are the kept list of the questions that check_host asks
 -- over these zones for some address of either family, once each and in order, each with what the zones say to it

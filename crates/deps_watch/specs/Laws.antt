@@ -1,22 +1,41 @@
--- What holds of kept lists over zones, as statements.
-use Rattle.std.specs.Prelude.{◌≡◌, ℕ, List}
+-- What holds of the texts of answers and of kept lists, as statements.
+use Rattle.std.specs.Prelude.{◌≡◌, ℕ, ◌↔◌, List}
 use Rattle.std.specs.List.{AllByRecursion}
 use Rattle.addr_bits.specs.Address.{IsAddress}
 use Rattle.addr_bits.specs.declared.address.Address.{Address}
 use Rattle.zone_answers.specs.Zone.{Zone}
+use Rattle.zone_answers.specs.declared.answer.Question.{Question}
 use Rattle.spf_model.specs.Result.{Gives}
 use Rattle.spf_model.specs.Run.{says}
 use Rattle.spf_model.specs.declared.outcome.Limits.{Limits}
 use Rattle.spf_model.specs.declared.outcome.Outcome.{Outcome}
 use Rattle.bound_table.specs.Reading.{lines_of}
-use Rattle.kept_lists.specs.declared.kept.Kept.{Kept}
-use Rattle.kept_lists.specs.declared.kept.KeptLine.{KeptLine}
-use Rattle.kept_lists.specs.Lists.{Agrees, AreReadingLimits, IsKeptDomain}
-use Rattle.kept_lists.specs.Reading.{AreKept}
+use Rattle.deps_watch.specs.declared.kept.Kept.{Kept}
+use Rattle.deps_watch.specs.declared.kept.KeptLine.{KeptLine}
+use Rattle.deps_watch.specs.Alike.{AreAlike, IsText}
+use Rattle.deps_watch.specs.Lists.{Agrees, AreReadingLimits, IsKeep, IsKeptDomain, kept_text}
+use Rattle.deps_watch.specs.Reading.{AreKept, AreNotKept}
 use Rattle.deps_watch.specs.declared.fresh.Freshness.{Freshness}
 use Rattle.deps_watch.specs.declared.fresh.Freshness.TheVariants.{Fresh}
 use Rattle.deps_watch.specs.Freshness.{IsFreshness}
 use Rattle.deps_watch.specs.Keeping.{IsKeptOf}
+
+-- a question has one text over zones; and two zones answer a question alike exactly where their texts are equal
+pub record TextsTell : Type 0 where
+  pub one : (zones : List Zone) (question : Question) (a b : List ℕ) → IsText zones question a
+      → IsText zones question b → a ≡ b
+  pub tell : (zones others : List Zone) (question : Question) (a b : List ℕ) → IsText zones question a
+      → IsText others question b → AreAlike zones others question ↔ (a ≡ b)
+
+-- lines are at most one kept list; they are never one and none, and at most one of them is the first at fault
+pub record OneKept : Type 0 where
+  pub one : (texts : List (List ℕ)) (a b : Kept) → AreKept texts a → AreKept texts b → a ≡ b
+  pub never_both : (texts : List (List ℕ)) (kept : Kept) (place : ℕ) → AreKept texts kept → ¬ AreNotKept texts place
+  pub one_fault : (texts : List (List ℕ)) (a b : ℕ) → AreNotKept texts a → AreNotKept texts b → a ≡ b
+
+-- the text of what may be kept is read back as it
+abbrev pub KeptIsRead : Type 0
+KeptIsRead = (zones : List Zone) (kept : Kept) → IsKeep zones kept → AreKept (lines_of (kept_text kept)) kept
 
 -- zones and a domain have one kept list; and lines are fresh, or one of them is the first that differs, but not both
 pub record OneWatch : Type 0 where

@@ -1,4 +1,9 @@
+pub mod Texts
+pub mod Leaves
+pub mod Alike
+pub mod Lists
+pub mod Reading
 pub mod Keeping
 pub mod Freshness
-pub mod Laws
 pub mod Reversals
+pub mod Laws

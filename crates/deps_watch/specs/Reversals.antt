@@ -5,7 +5,7 @@ use Rattle.addr_bits.specs.declared.address.Family.{Family}
 use Rattle.addr_bits.specs.declared.address.Family.TheVariants.{V4, V6}
 use Rattle.zone_answers.specs.Same.{same_name}
 use Rattle.zone_answers.specs.Zone.{Zone}
-use Rattle.kept_lists.specs.Alike.{IsReversedText}
+use Rattle.deps_watch.specs.Alike.{IsReversedText}
 use Rattle.deps_watch.specs.declared.reversals.Reversals.{Reversals}
 
 -- each text is what the zones say at the reversed names of the family below its name

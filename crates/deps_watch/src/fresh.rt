@@ -1,13 +1,13 @@
 //! Whether the lines of a kept list agree with zones.
 ghost use Rattle.std.specs.Prelude.{◌≡◌, ◌↔◌, IfOk, IsTrue, OnOk};
 ghost use Rattle.std.specs.List.{AllByRecursion};
-ghost use Rattle.kept_lists.specs.Lists.{Agrees, HasRoom};
+ghost use Rattle.deps_watch.specs.Lists.{Agrees, HasRoom};
 ghost use Rattle.deps_watch.specs.Freshness.{IsAgreement, IsFreshness};
 ghost use Rattle.deps_watch.specs.Reversals.{AreReversals};
 
+use crate::kept::{Kept, KeptLine};
 use crate::reversals::{Reversals, agrees_reversed};
 use crate::text::text_of;
-use kept_lists::{Kept, KeptLine};
 use std::alloc::{AllocError, Global};
 use zone_answers::{AskKind, Zones};
 
@@ -60,8 +60,8 @@ fn agrees(
 }
 
 /// Whether the zones say to each question of a kept list what its answer is; else the first line at which they do not.
-/// Each name that is asked for reversed must have at most 191 octets on the wire. Each line asks once; at reversed names
-/// each question is asked once, however many lines have it.
+/// Each name that is asked for reversed must have at most 191 octets on the wire. Each line asks once; at reversed
+/// names each question is asked once, however many lines have it.
 pub fn stale(alloc: Global, zones: &Zones, kept: &Kept) -> Result<Freshness, AllocError>
     requires { AllByRecursion (λ line. HasRoom line.question.kind line.question.name) kept.now.lines }
     ensures { IfOk result (IsFreshness zones.now kept.now.lines) }

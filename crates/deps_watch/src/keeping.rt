@@ -1,13 +1,12 @@
 //! Keeping what every question on which a policy rests is answered.
 ghost use Rattle.std.specs.Prelude.{◌≡◌, ◌++◌, IfOk, OnOk};
 ghost use Rattle.std.specs.List.{AllByRecursion};
-ghost use Rattle.kept_lists.specs.Laws.{IsKeepable};
-ghost use Rattle.kept_lists.specs.Lists.{AreReadingLimits, HasRoom, IsKeptDomain};
+ghost use Rattle.deps_watch.specs.Lists.{AreReadingLimits, HasRoom, IsKeepable, IsKeptDomain};
 ghost use Rattle.deps_watch.specs.Keeping.{AppendsLines, IsKeptOf};
 
+use crate::kept::{push_header, push_line};
 use crate::text::text_of;
 use addr_bits::Bytes;
-use kept_lists::{push_header, push_line};
 use spf_model::Limits;
 use std::alloc::{AllocError, Global};
 use symbolic_check::evaluate;

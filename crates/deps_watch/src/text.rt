@@ -2,12 +2,12 @@
 ghost use Rattle.std.specs.Prelude.{◌≡◌, ◌≤◌, length, IfOk};
 ghost use Rattle.dns_name.specs.Wire.{wire_form};
 ghost use Rattle.zone_answers.specs.Answers.{answer_of};
-ghost use Rattle.kept_lists.specs.Alike.{IsAnswerText, IsReversedText, IsText};
-ghost use Rattle.kept_lists.specs.Lists.{HasRoom};
+ghost use Rattle.deps_watch.specs.Alike.{IsAnswerText, IsReversedText, IsText};
+ghost use Rattle.deps_watch.specs.Lists.{HasRoom};
 
+use crate::answer::{write_answer, write_classes};
 use addr_bits::{AddressFamily, Bytes};
 use dns_name::Name;
-use kept_lists::{write_answer, write_classes};
 use prefix_trie::TrieMap;
 use reverse_names::reverse_sets;
 use std::alloc::{AllocError, Global};

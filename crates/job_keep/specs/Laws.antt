@@ -3,7 +3,7 @@ use Rattle.std.specs.Prelude.{◌≡◌, ℕ, List, [], ◌∷◌}
 use Rattle.std.proofs.Common.{sym, ap, subst, ◌∙◌}
 use Rattle.spfc_words.specs.Limits.{reading_options}
 use Rattle.spfc_words.proofs.Subjects.{one_subject}
-use Rattle.kept_lists.proofs.WordRanges.{word_domain, word_limits}
+use Rattle.deps_watch.proofs.WordRanges.{word_domain, word_limits}
 use Rattle.deps_watch.proofs.KeptWell.{kept_well, one_list}
 use Rattle.loading.specs.declared.loaded.Loaded.{Loaded}
 use Rattle.jobs.specs.Meaning.{Due, Gives, IsLawful}

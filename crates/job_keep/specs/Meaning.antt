@@ -1,6 +1,6 @@
 -- What the job means.
 use Rattle.std.specs.Prelude.{◌≡◌, []}
-use Rattle.kept_lists.specs.Lists.{AreReadingLimits, IsKeptDomain}
+use Rattle.deps_watch.specs.Lists.{AreReadingLimits, IsKeptDomain}
 use Rattle.deps_watch.specs.Keeping.{IsKeptOf}
 use Rattle.deps_watch.specs.Laws.{IsKeptWell}
 use Rattle.loading.specs.declared.loaded.Loaded.{Loaded}

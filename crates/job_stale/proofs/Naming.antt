@@ -2,7 +2,7 @@
 use Rattle.std.proofs.Common.{◌≡◌, ℕ, ◌+◌, ◌-◌, ◌<◌, List, ◌∷◌, ◌++◌, length, get_or, sym, ap, ◌∙◌, arith, length-append}
 use Rattle.std.proofs.Math.Seq.{get_or-append_seam}
 use Rattle.zone_answers.specs.Zone.{Zone}
-use Rattle.kept_lists.specs.declared.kept.KeptLine.{KeptLine}
+use Rattle.deps_watch.specs.declared.kept.KeptLine.{KeptLine}
 use Rattle.deps_watch.specs.Freshness.{IsFirstStale}
 
 -- its place is that of a line

@@ -8,10 +8,10 @@ use Rattle.spfc_words.specs.declared.input.Group.TheVariants.{Zones}
 use Rattle.spfc_words.specs.declared.input.Input.{Input}
 use Rattle.spfc_words.proofs.Inputs.{one_inputs}
 use Rattle.bound_table.specs.Reading.{lines_of}
-use Rattle.kept_lists.specs.declared.kept.Kept.{Kept}
-use Rattle.kept_lists.specs.declared.kept.KeptLine.{KeptLine}
-use Rattle.kept_lists.specs.Reading.{AreKept}
-use Rattle.kept_lists.proofs.OneList.{one_kept}
+use Rattle.deps_watch.specs.declared.kept.Kept.{Kept}
+use Rattle.deps_watch.specs.declared.kept.KeptLine.{KeptLine}
+use Rattle.deps_watch.specs.Reading.{AreKept}
+use Rattle.deps_watch.proofs.OneList.{one_kept}
 use Rattle.deps_watch.specs.declared.fresh.Freshness.TheVariants.{Fresh}
 use Rattle.deps_watch.specs.Freshness.{IsFreshness, IsFirstStale}
 use Rattle.deps_watch.proofs.KeptWell.{fresh_keeps}

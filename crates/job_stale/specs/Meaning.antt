@@ -5,10 +5,10 @@ use Rattle.zone_answers.specs.Zone.{Zone}
 use Rattle.zone_answers.specs.declared.answer.Question.{Question}
 use Rattle.spf_model.specs.declared.outcome.Limits.{Limits}
 use Rattle.bound_table.specs.Reading.{lines_of}
-use Rattle.kept_lists.specs.declared.kept.Kept.{Kept}
-use Rattle.kept_lists.specs.declared.kept.KeptLine.{KeptLine}
-use Rattle.kept_lists.specs.Lists.{AreReadingLimits, IsKeptDomain}
-use Rattle.kept_lists.specs.Reading.{AreKept, AreNotKept}
+use Rattle.deps_watch.specs.declared.kept.Kept.{Kept}
+use Rattle.deps_watch.specs.declared.kept.KeptLine.{KeptLine}
+use Rattle.deps_watch.specs.Lists.{AreReadingLimits, IsKeptDomain}
+use Rattle.deps_watch.specs.Reading.{AreKept, AreNotKept}
 use Rattle.deps_watch.specs.declared.fresh.Freshness.TheVariants.{Fresh}
 use Rattle.deps_watch.specs.Freshness.{IsFirstStale, IsFreshness}
 use Rattle.deps_watch.specs.Keeping.{IsKeptOf}

@@ -1,7 +1,7 @@
 //! The job.
 ghost use Rattle.std.specs.Prelude.{◌∷◌, IfOk};
 ghost use Rattle.std.specs.List.{AllByRecursion};
-ghost use Rattle.kept_lists.specs.Lists.{HasRoom};
+ghost use Rattle.deps_watch.specs.Lists.{HasRoom};
 ghost use Rattle.spfc_words.specs.Words.{texts};
 ghost use Rattle.jobs.specs.Meaning.{Reads};
 ghost use Rattle.job_stale.specs.Meaning.{IsWatchLine};

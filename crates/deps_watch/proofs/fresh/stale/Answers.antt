@@ -1,5 +1,5 @@
 use Rattle.std.proofs.Common.{◌≡◌, ◌<◌, Bool, List, length, get_or, ap, ◌∙◌, subst, arith}
-use Rattle.kept_lists.specs.declared.kept.KeptLine.{KeptLine}
+use Rattle.deps_watch.specs.declared.kept.KeptLine.{KeptLine}
 use Rattle.deps_watch.specs.Freshness.{IsAgreement}
 use Rattle.deps_watch.proofs.Agreeing.{first_at}
 use Rattle.deps_watch.proofs.fresh.stale.Goals as goal

@@ -1,6 +1,6 @@
 use Rattle.std.proofs.Common.{take}
 use Rattle.std.specs.List.{AllByRecursion}
-use Rattle.kept_lists.specs.Lists.{Agrees}
+use Rattle.deps_watch.specs.Lists.{Agrees}
 use Rattle.deps_watch.specs.Reversals.{AreReversals}
 use Rattle.deps_watch.proofs.fresh.stale.Given as goal
 

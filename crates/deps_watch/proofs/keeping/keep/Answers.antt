@@ -1,7 +1,7 @@
 use Rattle.std.proofs.Common.{List, sym, subst}
 use Rattle.std.specs.List.{AllByRecursion}
 use Rattle.zone_answers.specs.declared.answer.Question.{Question}
-use Rattle.kept_lists.specs.Lists.{HasRoom}
+use Rattle.deps_watch.specs.Lists.{HasRoom}
 use Rattle.deps_watch.proofs.Asked.{asked_rooms, kept_named}
 use Rattle.deps_watch.proofs.keeping.keep.Goals as goal
 

@@ -1,5 +1,5 @@
 use Rattle.std.proofs.Common.{rules, ℕ, List, sym, subst}
-use Rattle.kept_lists.specs.Alike.{IsReversedText}
+use Rattle.deps_watch.specs.Alike.{IsReversedText}
 use Rattle.deps_watch.proofs.Texts.{text_at, texts_more}
 use Rattle.deps_watch.proofs.reversals.agrees_reversed.Goals as goal
 

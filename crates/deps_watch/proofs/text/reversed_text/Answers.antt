@@ -4,8 +4,8 @@ use Rattle.addr_bits.specs.Address.{address_of, bits_of}
 use Rattle.zone_answers.specs.Reversed.{reversed_class}
 use Rattle.zone_answers.specs.contracts.class.Class.{the_type}
 use Rattle.zone_answers.specs.declared.class.Class.TheVariants.{Hit, Void, Beyond, Round}
-use Rattle.kept_lists.specs.Texts.{reversed_text}
-use Rattle.kept_lists.proofs.OneTrie.{least_of_trie}
+use Rattle.deps_watch.specs.Texts.{reversed_text}
+use Rattle.deps_watch.proofs.OneTrie.{least_of_trie}
 use Rattle.deps_watch.proofs.Agreeing.{if_ok}
 use Rattle.deps_watch.proofs.text.reversed_text.Goals as goal
 

@@ -1,7 +1,7 @@
 use Rattle.std.specs.Prelude.{codes}
 use Rattle.std.proofs.Common.{◌≡◌, ℕ, ◌-◌, List, get_or, ap, ◌∙◌}
 use Rattle.zone_answers.specs.Questions.{question_text}
-use Rattle.kept_lists.specs.declared.kept.KeptLine.{KeptLine}
+use Rattle.deps_watch.specs.declared.kept.KeptLine.{KeptLine}
 use Rattle.deps_watch.specs.Freshness.{IsFirstStale}
 use Rattle.deps_watch.proofs.Agreeing.{if_ok}
 use Rattle.loading.specs.Lines.{line_of}
