@@ -12,7 +12,7 @@ use Rattle.cert_checker.specs.Forms.{HasChainForm, HasShorterCut, HaveOwners, Is
 use Rattle.cert_checker.specs.Likeness.{IsFirstUnlike}
 use Rattle.cert_checker.specs.declared.answer.No.{No}
 use Rattle.cert_checker.specs.declared.answer.No.TheVariants.{Verdict, Records, Memory}
-use Rattle.cert_checker.specs.declared.chain.Chain.{Chain}
+use Rattle.cert_checker.specs.declared.chain.ReadChain.{ReadChain}
 
 -- ---- the chain
 
@@ -29,7 +29,7 @@ IsLabelAnswer name records (Some found) = (label : List ℕ) → IsTrue (is_labe
     → IsTrue (is_label found.now) × HaveOwners name found.now 0 records
 
 -- the records are a chain with this label and this list, or none
-abbrev pub IsChainAnswer : Labels → List Record → Option Chain → Type 0
+abbrev pub IsChainAnswer : Labels → List Record → Option ReadChain → Type 0
 IsChainAnswer name records None = (label : List ℕ) (lists : List (List FlatTerm))
     → ¬ HasChainForm name records label lists
 IsChainAnswer name records (Some chain) = (lists : List (List FlatTerm))

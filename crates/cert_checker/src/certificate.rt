@@ -16,6 +16,7 @@ use bound_table::{check_table, read_table};
 use dns_name::Name;
 use master_reader::read_zone;
 use policy_verdicts::policy_verdicts;
+use record_pack::Chain;
 use spf_grammar::FlatTerm;
 use spf_model::Limits;
 use std::alloc::Global;
@@ -68,14 +69,20 @@ pub fn verify(
     let name = Name::from_text(domain).unwrap();
     let records = read_zone(alloc, &name, bytes)?;
     let records = records.as_slice();
-    let Some(chain) = read_chain(alloc, &name, records)? else {
+    let Some(read) = read_chain(alloc, &name, records)? else {
         return Err(No::NotChain);
     };
-    let list = chain.list.as_slice();
+    let list = read.list.as_slice();
     judge_list(alloc, &due, list)?;
     judge_table(alloc, bytes, &due, list)?;
     let others = zones.other_text(&name);
-    judge_records(alloc, records, list, domain, chain.label, size, others)?;
+    let chain = Chain {
+        domain,
+        label: read.label,
+        size,
+        others,
+    };
+    judge_records(alloc, records, list, &chain)?;
     Ok(Yes {
         terms: list.len() as u64,
         records: records.len() as u32,

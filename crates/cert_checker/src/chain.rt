@@ -20,7 +20,7 @@ const NO_LABEL: &[u8] = b"_";
 
 /// The list that the records of a chain spell.
 #[derive(Drop)]
-pub(crate) struct Chain<'a> {
+pub(crate) struct ReadChain<'a> {
     /// The terms of all records, in order.
     pub(crate) list: FlatList,
     /// What the names of the records behind the first begin with.
@@ -88,7 +88,7 @@ pub(crate) fn read_chain<'a>(
     alloc: Global,
     name: &Name,
     records: &'a [Record],
-) -> Result<Option<Chain<'a>>, AllocError>
+) -> Result<Option<ReadChain<'a>>, AllocError>
     ensures { IfOk result (IsChainAnswer name.now records.now) }
 {
     if records.len() > MAX_RECORDS {
@@ -107,5 +107,5 @@ pub(crate) fn read_chain<'a>(
     if !read_links(alloc, records, &mut list)? {
         return Ok(None);
     }
-    Ok(Some(Chain { list, label }))
+    Ok(Some(ReadChain { list, label }))
 }

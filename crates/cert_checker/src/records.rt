@@ -8,7 +8,7 @@ ghost use Rattle.cert_checker.specs.Judging.{AreFewest, IsRecordsNo, IsShorterAn
 use crate::No;
 use addr_bits::Bytes;
 use master_reader::{Body, Record};
-use record_pack::{PackFault, name_len, pack};
+use record_pack::{Chain, PackFault};
 use spf_grammar::FlatTerm;
 use std::alloc::{AllocError, Global};
 
@@ -26,40 +26,35 @@ fn are_within(strings: &[Bytes], room: u64) -> bool
     true
 }
 
-/// Whether the record of this number takes less than the size with the text that it has (RFC 7208, section 3.4), where
-/// `others` are the octets of the other texts at the domain.
-fn fits_as_it_is(
-    candidate: &Record,
-    number: u32,
-    domain: &[u8],
-    label: &[u8],
-    size: u32,
-    others: u64,
-) -> bool
+/// Whether the record of this number takes less than the size with the text that it has (RFC 7208, section 3.4).
+fn fits_as_it_is(candidate: &Record, number: u32, chain: &Chain) -> bool
     requires few { number ≤ 10 }
-    ensures { IsTrue result ↔ TextFits domain.now label.now size others number (text_of candidate.now.body) }
+    ensures { IsTrue result ↔ TextFits chain.now.domain.now chain.now.label.now chain.now.size chain.now.others
+        number (text_of candidate.now.body) }
 {
     let Body::Txt(strings) = &candidate.body else {
         return false;
     };
-    let others = if number == 0 { others } else { 0 };
-    let taken = name_len(domain, label, number)
+    let others = if number == 0 { chain.others } else { 0 };
+    let taken = chain
+        .name_len(number)
         .saturating_add(others)
         .saturating_add(1);
-    match u64::from(size).checked_sub(taken) {
+    match u64::from(chain.size).checked_sub(taken) {
         Some(room) => are_within(strings.as_slice(), room),
         None => false,
     }
 }
 
 /// Whether each record takes less than the size with the text that it has.
-fn all_fit(records: &[Record], domain: &[u8], label: &[u8], size: u32, others: u64) -> bool
+fn all_fit(records: &[Record], chain: &Chain) -> bool
     requires few { length records.now ≤ 11 }
-    ensures { IsTrue result ↔ TextsFit domain.now label.now size others 0 records.now }
+    ensures { IsTrue result
+        ↔ TextsFit chain.now.domain.now chain.now.label.now chain.now.size chain.now.others 0 records.now }
 {
     let mut number = 0;
     for candidate in records {
-        if !fits_as_it_is(candidate, number, domain, label, size, others) {
+        if !fits_as_it_is(candidate, number, chain) {
             return false;
         }
         number += 1;
@@ -72,14 +67,12 @@ fn has_shorter_cut(
     alloc: Global,
     list: &[FlatTerm],
     records: usize,
-    domain: &[u8],
-    label: &[u8],
-    size: u32,
-    others: u64,
+    chain: &Chain,
 ) -> Result<bool, AllocError>
-    ensures { IfOk result (IsShorterAnswer domain.now label.now size others list.now records) }
+    ensures { IfOk result
+        (IsShorterAnswer chain.now.domain.now chain.now.label.now chain.now.size chain.now.others list.now records) }
 {
-    match pack(alloc, list, domain, label, size, others) {
+    match chain.pack(alloc, list) {
         Ok(cut) => Ok(cut.ends.len() < records),
         Err(PackFault::TooBig) => Ok(false),
         Err(PackFault::Memory) => Err(AllocError),
@@ -91,19 +84,18 @@ pub(crate) fn judge_records(
     alloc: Global,
     records: &[Record],
     list: &[FlatTerm],
-    domain: &[u8],
-    label: &[u8],
-    size: u32,
-    others: u64,
+    chain: &Chain,
 ) -> Result<(), No>
     requires few { length records.now ≤ 11 }
-    ensures fewest { IfOk result (λ _. AreFewest domain.now label.now size others records.now list.now) }
-    ensures fault { IfErr result (IsRecordsNo domain.now label.now size others records.now list.now) }
+    ensures fewest { IfOk result (λ _.
+        AreFewest chain.now.domain.now chain.now.label.now chain.now.size chain.now.others records.now list.now) }
+    ensures fault { IfErr result
+        (IsRecordsNo chain.now.domain.now chain.now.label.now chain.now.size chain.now.others records.now list.now) }
 {
-    if !all_fit(records, domain, label, size, others) {
+    if !all_fit(records, chain) {
         return Err(No::Records);
     }
-    if has_shorter_cut(alloc, list, records.len(), domain, label, size, others)? {
+    if has_shorter_cut(alloc, list, records.len(), chain)? {
         return Err(No::Records);
     }
     Ok(())

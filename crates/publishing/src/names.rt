@@ -8,7 +8,6 @@ use crate::ChainSettings;
 use addr_bits::Bytes;
 use dns_name::Name;
 use loading::{OrMemory, Refusal};
-use record_pack::push_name;
 use std::alloc::{AllocError, Global};
 use zone_answers::Zones;
 
@@ -34,18 +33,13 @@ pub(crate) fn refuse_taken(
     Ok(())
 }
 
-/// The name of a record behind the first.
+/// The name of a record behind the first. It does not depend on the other texts at the domain.
 fn write_name(alloc: Global, settings: &ChainSettings, number: u64) -> Result<Bytes, AllocError>
     requires { 1 ≤ number }
     ensures { IfOk result (λ name. name ≡ name_text settings.now number) }
 {
     let mut name = Bytes::new(alloc);
-    push_name(
-        &mut name,
-        settings.domain.text.as_slice(),
-        settings.label.as_slice(),
-        number,
-    )?;
+    settings.chain(0).push_name(&mut name, number)?;
     Ok(name)
 }
 

@@ -11,12 +11,12 @@ use crate::names::refuse_taken;
 use addr_bits::Bytes;
 use fewest_terms::{Shortest, fewest};
 use loading::{OrMemory, Refusal, copied};
-use record_pack::{Cut, PackFault, pack};
+use record_pack::{Cut, PackFault};
 use spf_grammar::FlatTerm;
 use std::alloc::Global;
 use verdict_map::VerdictTries;
 use zone_answers::Zones;
-use zone_writer::fragment;
+use zone_writer::write_chain;
 
 /// The fragment of a shortest list with these verdicts, in the fewest records that fit beside the other texts at the
 /// domain. Refused is an alias at the domain, then a list that fits into no records, and then the name of a record
@@ -56,14 +56,8 @@ fn write_shortest(
     let others = zones.other_text(&settings.domain.name);
     let cut = cut_list(alloc, settings, others, found.list.as_slice())?;
     refuse_taken(alloc, zones, settings, cut.ends.len())?;
-    let bytes = fragment(
-        alloc,
-        found,
-        &cut,
-        settings.domain.text.as_slice(),
-        settings.label.as_slice(),
-        settings.ttl,
-    )?;
+    let chain = settings.chain(others);
+    let bytes = write_chain(alloc, found, &cut, &chain, settings.ttl)?;
     Ok(bytes)
 }
 
@@ -77,14 +71,7 @@ fn cut_list(
     ensures chosen { IfOk result (λ cut. IsChosenCut settings.now others list.now cut.ends) }
     ensures refused { IfErr result (ErrorIs (IsTooBig settings.now others list.now)) }
 {
-    match pack(
-        alloc,
-        list,
-        settings.domain.text.as_slice(),
-        settings.label.as_slice(),
-        settings.size,
-        others,
-    ) {
+    match settings.chain(others).pack(alloc, list) {
         Ok(cut) => Ok(cut),
         Err(PackFault::TooBig) => Err(OrMemory::Error(Refusal::TooBig)),
         Err(PackFault::Memory) => Err(OrMemory::Memory),

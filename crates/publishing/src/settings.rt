@@ -6,10 +6,11 @@ ghost use Rattle.publishing.specs.Settings as settings;
 ghost use Rattle.publishing.specs.Settings.{AreSettings, IsLabelOption};
 ghost use Rattle.publishing.specs.declared.settings.ChainSettings.{ChainSettings};
 
-use addr_bits::Bytes;
+use addr_bits::{Bytes, lower_case};
+use record_pack::Chain;
 use spf_macros::{MAX_NAME_TEXT, is_label};
 use spfc_words::{
-    Domain, NumberRow, Row, SIZE, TextRow, lowercase, read_domain, read_number, read_text,
+    Domain, NumberRow, Row, SIZE, TextRow, read_domain, read_number, read_text,
 };
 use std::alloc::{AllocError, Global};
 
@@ -41,6 +42,23 @@ pub struct ChainSettings {
     pub size: u32,
     /// The TTL of the records, in seconds.
     pub ttl: u32,
+}
+
+impl ChainSettings {
+    /// The chain of these settings, where the other TXT texts at the domain have so many octets.
+    pub(crate) fn chain(&self, others: u64) -> Chain<'_>
+        ensures domain { result.domain.now ≡ self.now.domain.text }
+        ensures label { result.label.now ≡ self.now.label }
+        ensures size { result.size ≡ self.now.size }
+        ensures others { result.others ≡ others }
+    {
+        Chain {
+            domain: self.domain.text.as_slice(),
+            label: self.label.as_slice(),
+            size: self.size,
+            others,
+        }
+    }
 }
 
 /// The settings that a domain and the options in front of the words give, by the table of the job; `None` where the
@@ -90,7 +108,7 @@ fn read_label(alloc: Global, rows: &[Row], words: &[String]) -> Result<Option<By
     if !is_label(text) {
         return Ok(None);
     }
-    Ok(Some(lowercase(alloc, text)?))
+    Ok(Some(lower_case(alloc, text)?))
 }
 
 /// Whether the name of the last record of a chain is no longer than a name may be.

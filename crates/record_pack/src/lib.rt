@@ -6,11 +6,9 @@ mod cut;
 mod fault;
 mod fit;
 mod greedy;
-mod name;
 
 pub use chain::Chain;
 pub use cut::{Cut, Ends};
 pub use fault::PackFault;
 pub use fit::fits;
 pub use greedy::pack;
-pub use name::{name_len, push_name};

@@ -34,9 +34,9 @@ pub returns-in_err-judge_list-clause-reason : goal.returns-in_err-judge_list-cla
 returns-in_err-judge_list-clause-reason c =
     let due = c.in_ok-due.field-0.tries in
     let same = name_same c.args.domain.now c.unwrap-name.result c.from_text.result c.from_text.ensures c.unwrap-name.ensures in
-    let found = found_chain c.args.domain.now c.args.bytes.now c.unwrap-name.result c.in_ok-records.records c.in-Some.chain.label.now c.in-Some.chain.list same c.in_ok-records.ensures.reads
+    let found = found_chain c.args.domain.now c.args.bytes.now c.unwrap-name.result c.in_ok-records.records c.in-Some.read.label.now c.in-Some.read.list same c.in_ok-records.ensures.reads
     (rw (c.in-Some.is, c.as_slice-records.ensures) at c.in_ok-chain.ensures) in
-    let reason = list_so c.args.zones.now c.args.limits c.args.domain.now c.args.size c.args.bytes.now due c.in_ok-records.records c.in-Some.chain.label.now c.in-Some.chain.list c.in_err-judge_list.field-0.0
+    let reason = list_so c.args.zones.now c.args.limits c.args.domain.now c.args.size c.args.bytes.now due c.in_ok-records.records c.in-Some.read.label.now c.in-Some.read.list c.in_err-judge_list.field-0.0
     found c.in_ok-due.ensures.kept (rw c.as_slice-list.ensures at c.in_err-judge_list.ensures.other) in
     search (rules, reason)
 
@@ -44,9 +44,9 @@ pub returns-in_err-judge_table-clause-reason : goal.returns-in_err-judge_table-c
 returns-in_err-judge_table-clause-reason c =
     let due = c.in_ok-due.field-0.tries in
     let same = name_same c.args.domain.now c.unwrap-name.result c.from_text.result c.from_text.ensures c.unwrap-name.ensures in
-    let found = found_chain c.args.domain.now c.args.bytes.now c.unwrap-name.result c.in_ok-records.records c.in-Some.chain.label.now c.in-Some.chain.list same c.in_ok-records.ensures.reads
+    let found = found_chain c.args.domain.now c.args.bytes.now c.unwrap-name.result c.in_ok-records.records c.in-Some.read.label.now c.in-Some.read.list same c.in_ok-records.ensures.reads
     (rw (c.in-Some.is, c.as_slice-records.ensures) at c.in_ok-chain.ensures) in
-    let reason = table_so c.args.zones.now c.args.limits c.args.domain.now c.args.size c.args.bytes.now due c.in_ok-records.records c.in-Some.chain.label.now c.in-Some.chain.list c.in_err-judge_table.field-0.0
+    let reason = table_so c.args.zones.now c.args.limits c.args.domain.now c.args.size c.args.bytes.now due c.in_ok-records.records c.in-Some.read.label.now c.in-Some.read.list c.in_err-judge_table.field-0.0
     found c.in_ok-due.ensures.kept (rw c.as_slice-list.ensures at c.in_ok-judge_list.ensures.same) (rw c.as_slice-list.ensures at c.in_err-judge_table.ensures.fault) in
     search (rules, reason)
 
@@ -54,9 +54,9 @@ pub returns-in_err-judge_records-clause-reason : goal.returns-in_err-judge_recor
 returns-in_err-judge_records-clause-reason c =
     let due = c.in_ok-due.field-0.tries in
     let same = name_same c.args.domain.now c.unwrap-name.result c.from_text.result c.from_text.ensures c.unwrap-name.ensures in
-    let found = found_chain c.args.domain.now c.args.bytes.now c.unwrap-name.result c.in_ok-records.records c.in-Some.chain.label.now c.in-Some.chain.list same c.in_ok-records.ensures.reads
+    let found = found_chain c.args.domain.now c.args.bytes.now c.unwrap-name.result c.in_ok-records.records c.in-Some.read.label.now c.in-Some.read.list same c.in_ok-records.ensures.reads
     (rw (c.in-Some.is, c.as_slice-records.ensures) at c.in_ok-chain.ensures) in
-    let reason = records_so c.args.zones.now c.args.limits c.args.domain.now c.args.size c.args.bytes.now due c.in_ok-records.records c.in-Some.chain.label.now c.in-Some.chain.list c.other_text-others.result
+    let reason = records_so c.args.zones.now c.args.limits c.args.domain.now c.args.size c.args.bytes.now due c.in_ok-records.records c.in-Some.read.label.now c.in-Some.read.list c.other_text-others.result
     c.in_err-judge_records.field-0.0 found c.in_ok-due.ensures.kept (rw c.as_slice-list.ensures at c.in_ok-judge_list.ensures.same) (rw c.as_slice-list.ensures at c.in_ok-judge_table.ensures.good)
     (c.other_text-others.ensures ∙ ap (other_text_of c.args.zones.now) same) (rw (c.as_slice-records.ensures, c.as_slice-list.ensures) at c.in_err-judge_records.ensures.fault) in
     search (rules, reason)
@@ -65,9 +65,9 @@ pub returns-clause-certified : goal.returns-clause-certified
 returns-clause-certified c =
     let due = c.in_ok-due.field-0.tries in
     let same = name_same c.args.domain.now c.unwrap-name.result c.from_text.result c.from_text.ensures c.unwrap-name.ensures in
-    let found = found_chain c.args.domain.now c.args.bytes.now c.unwrap-name.result c.in_ok-records.records c.in-Some.chain.label.now c.in-Some.chain.list same c.in_ok-records.ensures.reads
+    let found = found_chain c.args.domain.now c.args.bytes.now c.unwrap-name.result c.in_ok-records.records c.in-Some.read.label.now c.in-Some.read.list same c.in_ok-records.ensures.reads
     (rw (c.in-Some.is, c.as_slice-records.ensures) at c.in_ok-chain.ensures) in
-    certified_so c.args.zones.now c.args.limits c.args.domain.now c.args.size c.args.bytes.now due c.in_ok-records.records c.in-Some.chain.label.now c.in-Some.chain.list c.other_text-others.result _
+    certified_so c.args.zones.now c.args.limits c.args.domain.now c.args.size c.args.bytes.now due c.in_ok-records.records c.in-Some.read.label.now c.in-Some.read.list c.other_text-others.result _
     found c.requires.domain c.in_ok-due.ensures.kept (rw c.as_slice-list.ensures at c.in_ok-judge_list.ensures.same) (rw c.as_slice-list.ensures at c.in_ok-judge_table.ensures.good)
     (c.other_text-others.ensures ∙ ap (other_text_of c.args.zones.now) same) (rw (c.as_slice-records.ensures, c.as_slice-list.ensures) at c.in_ok-judge_records.ensures.fewest)
     (ap length c.as_slice-list.ensures) (ap length c.as_slice-records.ensures)

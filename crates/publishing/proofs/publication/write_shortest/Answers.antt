@@ -16,4 +16,4 @@ pub returns-clause-written : goal.returns-clause-written
 returns-clause-written c =
     written c.in_ok-cut.cut.ends (rw (c.as_slice.ensures, c.other_text-others.ensures) at c.in_ok-cut.ensures.chosen)
     (rw c.len.ensures at c.in_ok-refuse_taken.ensures.free)
-    (ap (λ bytes. Ok bytes) (rw (c.as_slice-2.ensures, c.as_slice-3.ensures) at c.in_ok-bytes.ensures))
+    (ap (λ bytes. Ok bytes) (rw (c.chain-chain.ensures.domain, c.chain-chain.ensures.label) at c.in_ok-bytes.ensures))
