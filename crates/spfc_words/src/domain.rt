@@ -1,10 +1,9 @@
 //! Domains.
-ghost use Rattle.std.specs.Prelude.{◌≡◌, IfOk, MatchOption};
-ghost use Rattle.std.specs.Str.{str_to_ascii_lowercase};
+ghost use Rattle.std.specs.Prelude.{IfOk, MatchOption};
 ghost use Rattle.spfc_words.specs.declared.domain.Domain.{Domain};
 ghost use Rattle.spfc_words.specs.Domains.{IsDomain};
 
-use addr_bits::Bytes;
+use addr_bits::{Bytes, lower_case};
 use dns_name::Name;
 use spf_macros::is_domain;
 use std::alloc::{AllocError, Global};
@@ -26,16 +25,7 @@ pub fn read_domain(alloc: Global, word: &[u8]) -> Result<Option<Domain>, AllocEr
     if !is_domain(word) {
         return Ok(None);
     }
-    let text = lowercase(alloc, word)?;
+    let text = lower_case(alloc, word)?;
     let name = Name::from_text(text.as_slice()).unwrap();
     Ok(Some(Domain { text, name }))
-}
-
-/// The text with its letters in lower case.
-pub fn lowercase(alloc: Global, text: &[u8]) -> Result<Bytes, AllocError>
-    ensures { IfOk result (λ bytes. bytes ≡ str_to_ascii_lowercase text.now) }
-{
-    let mut bytes = Bytes::new(alloc);
-    bytes.extend_from_slice(&text.to_ascii_lowercase(alloc)?)?;
-    Ok(bytes)
 }

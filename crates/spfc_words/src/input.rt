@@ -6,7 +6,7 @@ ghost use Rattle.spfc_words.specs.Inputs.{AreZoneInputs, file_input, place_zone 
 ghost use Rattle.spfc_words.specs.Words.{texts};
 
 use crate::zone_word::{ZoneWord, ZoneWords, read_zone_words};
-use addr_bits::{Bytes, Items};
+use addr_bits::{Bytes, Items, copied};
 use dns_name::Name;
 use std::alloc::{AllocError, Global};
 
@@ -75,8 +75,7 @@ pub fn push_file(alloc: Global, inputs: &mut Inputs, word: &str) -> Result<(), A
     ensures named { OnOk result (inputs.new ≡ inputs.old ++ file_input word.now ∷ []) }
     ensures memory { OnErr result (inputs.new ≡ inputs.old) }
 {
-    let mut file = Bytes::new(alloc);
-    file.extend_from_slice(word.as_bytes())?;
+    let file = copied(alloc, word.as_bytes())?;
     inputs.push(Input {
         place: Place::File,
         file,

@@ -11,7 +11,7 @@ mod size;
 mod subject;
 mod zone_word;
 
-pub use domain::{Domain, lowercase, read_domain};
+pub use domain::{Domain, read_domain};
 pub use input::{Group, Input, Inputs, Place, push_file, push_zone_words};
 pub use laws::domains_are_names;
 pub use limits::{EXCHANGES, LOOKUPS, READING, VOIDS, read_limits};

@@ -6,7 +6,7 @@ ghost use Rattle.spfc_words.specs.ZoneWords as words;
 ghost use Rattle.spfc_words.specs.ZoneWords.{origin_in, file_in, IsOrigin, IsZoneWord, AreZoneWords};
 ghost use Rattle.spfc_words.specs.Words.{texts};
 
-use addr_bits::{Bytes, Items};
+use addr_bits::{Bytes, Items, copied};
 use dns_name::{Name, without_final_dot};
 use spf_macros::are_domain_labels;
 use std::alloc::{AllocError, Global};
@@ -68,8 +68,7 @@ fn read_zone_word(alloc: Global, word: &str) -> Result<Option<ZoneWord>, AllocEr
     let Some(origin) = read_origin(origin) else {
         return Ok(None);
     };
-    let mut file = Bytes::new(alloc);
-    file.extend_from_slice(text)?;
+    let file = copied(alloc, text)?;
     Ok(Some(ZoneWord { origin, file }))
 }
 
