@@ -1,3 +1,4 @@
+pub mod Accepted
 pub mod BestPublication
 pub mod LegalSettings
 pub mod OnePolicy

@@ -1,3 +1,4 @@
 pub mod Policy
 pub mod Published
 pub mod Settings
+pub mod Accepted

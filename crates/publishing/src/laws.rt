@@ -1,4 +1,5 @@
 //! Laws of what is published. The functions do nothing: what they promise is the law.
+ghost use Rattle.publishing.specs.Accepted.{DueHasNoReason, DueIsCertified};
 ghost use Rattle.publishing.specs.Policy.{DueIsShortest};
 ghost use Rattle.publishing.specs.Published.{DueIsBest, OnePublication};
 
@@ -19,4 +20,11 @@ pub fn due_is_best()
 /// where they are published.
 pub fn due_is_shortest()
     ensures { DueIsShortest }
+{}
+
+/// For legal settings a fragment that is due for the policy of a domain is certified, over the same zones, under the
+/// same limits and for the same size, and no reason holds of it but want of memory.
+pub fn due_is_certified()
+    ensures certified { DueIsCertified }
+    ensures reason { DueHasNoReason }
 {}

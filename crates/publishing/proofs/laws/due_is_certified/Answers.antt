@@ -1,5 +1,5 @@
-use Rattle.published_fragments.proofs.Accepted.{due_has_no_reason, due_is_certified}
-use Rattle.published_fragments.proofs.laws.due_is_certified.Goals as goal
+use Rattle.publishing.proofs.Accepted.{due_has_no_reason, due_is_certified}
+use Rattle.publishing.proofs.laws.due_is_certified.Goals as goal
 
 pub returns-clause-certified : goal.returns-clause-certified
 returns-clause-certified c = due_is_certified

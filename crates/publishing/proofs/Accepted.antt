@@ -21,7 +21,7 @@ use Rattle.publishing.specs.Published.{ListDue, alias, packed, taken, too_big, w
 use Rattle.publishing.specs.Settings.{AreLegal}
 use Rattle.publishing.specs.declared.settings.ChainSettings.{ChainSettings}
 use Rattle.publishing.proofs.BestPublication.{ok_not_err, ok_once}
-use Rattle.published_fragments.specs.Accepted.{DueHasNoReason, DueIsCertified}
+use Rattle.publishing.specs.Accepted.{DueHasNoReason, DueIsCertified}
 
 module _ (settings : ChainSettings) (limits : Limits) (zones : List Zone) (bytes : List ℕ) (legal : AreLegal settings) where
   same_others : other_text_of zones settings.domain.name ≡ others_at zones settings.domain.text
