@@ -11,7 +11,8 @@ use Rattle.fewest_terms.specs.Needs.{is_mixed, need_of_halves}
 use Rattle.fewest_terms.specs.Tables.{number}
 use Rattle.fewest_terms.specs.Chosen.{one_term, best, chosen}
 use Rattle.fewest_terms.specs.Leaves.{verdict_at, leaves_of, BeginAt, SumsBeginAt, sum_rows, leaves_at, sums_at, terms_at, passed_down}
-use Rattle.fewest_terms.proofs.VerdictLemmas.{is_same-true, is_same-self, best-least}
+use Rattle.fewest_terms.proofs.VerdictLemmas.{best-least}
+use Rattle.verdict_map.proofs.Same.{is_same-true, is_same-self}
 use Rattle.fewest_terms.proofs.ChosenLemmas.{OwnChoice, own_plain, own_kept, own_fresh, own_choice, chosen-zero}
 use Rattle.fewest_terms.proofs.WalkLemmas.{number-sums_of, Halves, leaves_of-mixed, fits_at, need-leaves, sums_of, sum_rows-mixed, low_place, high_bits_at}
 

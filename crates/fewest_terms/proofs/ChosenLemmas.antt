@@ -19,7 +19,8 @@ use Rattle.spf_grammar.specs.Lists.{IsSame, reach, seen}
 use Rattle.fewest_terms.specs.Needs.{is_mixed, need, need_of_halves}
 use Rattle.fewest_terms.specs.Totals.{need_of_both, total, verdict_of_all}
 use Rattle.fewest_terms.specs.Chosen.{ChosenIsSame, ChosenIsShortest, one_term, best, chosen, flat, all_term, chosen_list}
-use Rattle.fewest_terms.proofs.VerdictLemmas.{is_same-true, best-least, verdict_of_all-least}
+use Rattle.fewest_terms.proofs.VerdictLemmas.{best-least, verdict_of_all-least}
+use Rattle.verdict_map.proofs.Same.{is_same-true}
 use Rattle.fewest_terms.proofs.Places.{lies-lowest, drop_bit_last}
 use Rattle.fewest_terms.proofs.Mixed.{need-mixed, need-plain, same-lowest, halves_cover, one-plain}
 

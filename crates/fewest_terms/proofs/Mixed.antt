@@ -5,7 +5,8 @@ use Rattle.spf_grammar.specs.declared.verdict.Verdict.{Verdict}
 use Rattle.fewest_terms.specs.Verdicts.{is_same, cost}
 use Rattle.addr_bits.specs.Blocks.{lowest}
 use Rattle.fewest_terms.specs.Needs.{MixedIsExact, NeedIsSmall, Mixed, is_mixed, need, need_of_halves, at_mixed, mixed_count}
-use Rattle.fewest_terms.proofs.VerdictLemmas.{is_same-true, is_same-false, cost-self, cost-le, least-le}
+use Rattle.fewest_terms.proofs.VerdictLemmas.{cost-self, cost-le, least-le}
+use Rattle.verdict_map.proofs.Same.{is_same-true, is_same-false}
 use Rattle.fewest_terms.proofs.Places.{lies-half, lies-lowest, drop_bit_last}
 
 -- the lower half begins where the whole does

@@ -4,24 +4,9 @@ use Rattle.std.proofs.lemmas.Bool.{cond_both, cond-true, false≢true, eqb-false
 use Rattle.spf_grammar.specs.declared.verdict.Verdict.{Verdict}
 use Rattle.spf_grammar.specs.declared.verdict.Verdict.TheVariants.{Fail, SoftFail, Pass, Neutral}
 use Rattle.fewest_terms.specs.Verdicts.{is_same, cost, least}
+use Rattle.verdict_map.proofs.Same.{is_same-self}
 use Rattle.fewest_terms.specs.Chosen.{best}
 use Rattle.fewest_terms.specs.Totals.{least_with_all, verdict_of_all}
-
-pub is_same-self : (d : Verdict) → is_same d d ≡ true
-is_same-self Fail = refl
-is_same-self SoftFail = refl
-is_same-self Pass = refl
-is_same-self Neutral = refl
-
-pub is_same-true : (d c : Verdict) → is_same d c ≡ true → d ≡ c
-is_same-true Fail Fail h = refl
-is_same-true SoftFail SoftFail h = refl
-is_same-true Pass Pass h = refl
-is_same-true Neutral Neutral h = refl
-is_same-true _ _ h = absurd (false≢true h)
-
-pub is_same-false : (d c : Verdict) → is_same d c ≡ false → d ≢ c
-is_same-false d c h e = false≢true (sym h ∙ ap (λ x. is_same d x) (sym e) ∙ is_same-self d)
 
 pub cost-self : (d : Verdict) → cost d d ≡ 0
 unfolding cost

@@ -1,26 +1,17 @@
--- The verdicts of a trie, and what belongs to each prefix in the list of its leaves: definitions of the project's own.
+-- What belongs to each prefix in the list of a trie's leaves: definitions of the project's own.
 use Rattle.std.specs.Prelude.{ℕ, zero, suc, ◌≡◌, ◌+◌, ◌-◌, ◌*◌, ◌/◌, ◌^◌, nat_le, if◌then◌else◌, List, [], ◌∷◌, ◌++◌}
 use Rattle.std.specs.Prelude.{drop, Option, Some, None}
 use Rattle.addr_bits.specs.Prefix.{Cidr}
 use Rattle.addr_bits.specs.Blocks.{lowest, prefix_of}
-use Rattle.prefix_trie.specs.Leaves.{value_at}
 use Rattle.spf_grammar.specs.declared.verdict.Verdict.{Verdict}
 use Rattle.spf_grammar.specs.declared.verdict.Verdict.TheVariants.{Fail, SoftFail, Pass, Neutral}
+pub use Rattle.verdict_map.specs.Tries.{or_neutral, verdict_at}
 use Rattle.fewest_terms.specs.declared.needs.Needs.{Needs}
 use Rattle.fewest_terms.specs.Row.{NeedRow}
 use Rattle.fewest_terms.specs.Verdicts.{least}
 use Rattle.fewest_terms.specs.Needs.{at_mixed, is_mixed, need, need_of_halves}
 use Rattle.fewest_terms.specs.Chosen.{best, chosen}
 use Rattle.fewest_terms.specs.Tables.{number}
-
--- RFC 7208, section 4.7: where nothing decides, the verdict is neutral
-abbrev pub or_neutral : Option Verdict → Verdict
-or_neutral (Some v) = v
-or_neutral None = Neutral
-
--- the verdict at an address: that of the leaf that covers it
-abbrev pub verdict_at : (bits : ℕ) → List (Cidr × Verdict) → (a : ℕ) → Verdict
-verdict_at bits leaves a = or_neutral (value_at bits leaves a)
 
 -- the leaves at or below a prefix: one, where it is not mixed
 unfoldable pub leaves_of : (w : ℕ) → (ℕ → Verdict) → (k n : ℕ) → List (Cidr × Verdict)

@@ -1,15 +1,8 @@
--- Verdicts (RFC 7208, section 2.6): when two are the same, and the project's own sums over the four.
-use Rattle.std.specs.Prelude.{ℕ, min, Bool, true, false, if◌then◌else◌}
+-- The project's own sums over the four verdicts of RFC 7208, section 2.6.
+use Rattle.std.specs.Prelude.{ℕ, min, if◌then◌else◌}
 use Rattle.spf_grammar.specs.declared.verdict.Verdict.{Verdict}
 use Rattle.spf_grammar.specs.declared.verdict.Verdict.TheVariants.{Fail, SoftFail, Pass, Neutral}
-
--- whether two verdicts are the same
-abbrev pub is_same : Verdict → Verdict → Bool
-is_same Fail Fail = true
-is_same SoftFail SoftFail = true
-is_same Pass Pass = true
-is_same Neutral Neutral = true
-is_same _ _ = false
+pub use Rattle.verdict_map.specs.Tries.{is_same}
 
 -- the terms that it takes to give all addresses of a prefix the verdict d, where they have c so far
 unfoldable pub cost : Verdict → Verdict → ℕ

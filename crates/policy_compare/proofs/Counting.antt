@@ -2,7 +2,6 @@
 use Rattle.std.proofs.Common.{◌≡◌, ℕ, zero, suc, ◌+◌, ◌*◌, ◌^◌, ◌<◌, ◌≤◌, Bool, true, false, refl, sym, ap, ap₂, ◌∙◌, inl, inr, arith, pow-suc}
 use Rattle.std.specs.Prelude.{if◌then◌else◌}
 use Rattle.std.proofs.lemmas.Bool.{cases_lt}
-use Rattle.fewest_terms.proofs.Mixed.{lowest-half}
 use Rattle.policy_compare.specs.Changes.{count_in}
 
 abbrev pub one_if : Bool → ℕ
@@ -81,7 +80,7 @@ count_prefix test zero n =
     let one : count_from test n 1 ≡ one_if (test n) = omega arith in
     sym (ap (λ (s : ℕ). count_from test s 1) place ∙ one)
 count_prefix test (suc k) n =
-    let start : 2 * n * 2 ^ k ≡ n * 2 ^ (suc k) = lowest-half k n in
+    let start : 2 * n * 2 ^ k ≡ n * 2 ^ (suc k) = grind (arith, pow-suc) in
     let middle : (2 * n + 1) * 2 ^ k ≡ n * 2 ^ (suc k) + 2 ^ k = grind (arith, pow-suc) in
     let size : 2 ^ k + 2 ^ k ≡ 2 ^ (suc k) = grind (arith, pow-suc) in
     ap₂ (λ (a b : ℕ). a + b)

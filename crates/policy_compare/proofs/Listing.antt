@@ -10,8 +10,8 @@ use Rattle.addr_bits.specs.declared.address.Family.{Family}
 use Rattle.addr_bits.specs.Prefix.{Cidr}
 use Rattle.prefix_trie.specs.Leaves.{value_at}
 use Rattle.spf_grammar.specs.declared.verdict.Verdict.{Verdict}
-use Rattle.fewest_terms.specs.Verdicts.{is_same}
-use Rattle.fewest_terms.proofs.VerdictLemmas.{is_same-self, is_same-true, is_same-false}
+use Rattle.verdict_map.specs.Tries.{is_same}
+use Rattle.verdict_map.proofs.Same.{is_same-self, is_same-true, is_same-false}
 use Rattle.symbolic_check.proofs.Keying.{at_front, behind}
 use Rattle.policy_compare.specs.Changes.{has_both, IsCount, IsLeast, IsChange, IsBelow, AreRising, AreFamilyChanges}
 use Rattle.policy_compare.specs.Pairs.{ArePairs, has_pair, is_new, is_new_at}

@@ -5,8 +5,8 @@ use Rattle.addr_bits.specs.Address.{address_of}
 use Rattle.addr_bits.specs.declared.address.Family.{Family}
 use Rattle.addr_bits.specs.declared.address.Family.TheVariants as family
 use Rattle.spf_grammar.specs.declared.verdict.Verdict.{Verdict}
-use Rattle.fewest_terms.specs.Verdicts.{is_same}
-use Rattle.fewest_terms.proofs.VerdictLemmas.{is_same-self, is_same-true, is_same-false}
+use Rattle.verdict_map.specs.Tries.{is_same}
+use Rattle.verdict_map.proofs.Same.{is_same-self, is_same-true, is_same-false}
 use Rattle.symbolic_check.proofs.Keying.{at_front}
 use Rattle.policy_verdicts.proofs.OrderedLists.{InOrder, IsStrict, one_list}
 use Rattle.policy_compare.specs.Changes.{has_both, IsCount, IsLeast, IsChange, IsBelow, AreRising, AreFamilyChanges}

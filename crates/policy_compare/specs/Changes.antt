@@ -5,7 +5,7 @@ use Rattle.addr_bits.specs.Address.{address_of}
 use Rattle.addr_bits.specs.declared.address.Family.{Family}
 use Rattle.addr_bits.specs.declared.address.Family.TheVariants as family
 use Rattle.spf_grammar.specs.declared.verdict.Verdict.{Verdict}
-use Rattle.fewest_terms.specs.Verdicts.{is_same}
+use Rattle.verdict_map.specs.Tries.{is_same}
 use Rattle.policy_compare.specs.declared.change.Change.{Change}
 use Rattle.policy_compare.specs.declared.change.Count.{Count}
 use Rattle.policy_compare.specs.declared.change.Count.TheVariants.{All, Number}

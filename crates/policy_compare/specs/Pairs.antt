@@ -5,7 +5,7 @@ use Rattle.std.specs.List.{list_any}
 use Rattle.addr_bits.specs.Prefix.{Cidr}
 use Rattle.prefix_trie.specs.Leaves.{value_at}
 use Rattle.spf_grammar.specs.declared.verdict.Verdict.{Verdict}
-use Rattle.fewest_terms.specs.Verdicts.{is_same}
+use Rattle.verdict_map.specs.Tries.{is_same}
 use Rattle.policy_compare.specs.declared.change.Change.{Change}
 use Rattle.policy_compare.specs.declared.pairs.Pair.{Pair}
 

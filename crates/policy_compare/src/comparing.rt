@@ -1,7 +1,7 @@
 //! The changes from one policy to another.
 ghost use Rattle.std.specs.Prelude.{◌≡◌, ◌<◌, ◌^◌, ℕ, IfOk, IfSome, IfNone, IsFalse, true, false};
 ghost use Rattle.spf_grammar.specs.declared.verdict.Verdict.{Verdict};
-ghost use Rattle.fewest_terms.specs.Leaves.{verdict_at as trie_verdict};
+ghost use Rattle.verdict_map.specs.Tries.{verdict_at as trie_verdict};
 ghost use Rattle.prefix_trie.specs.Leaves.{CoverInOrder, value_at};
 ghost use Rattle.policy_compare.specs.Changes.{AreChanges, AreFamilyChanges, IsCount, IsLeast, has_both};
 ghost use Rattle.policy_compare.specs.Pairs.{ArePairs, is_new_at, is_pair_there, matched};

@@ -1,7 +1,7 @@
 //! The verdicts of each address by two policies.
 ghost use Rattle.std.specs.Prelude.{◌≡◌, IfOk};
 ghost use Rattle.std.specs.List.{list_any};
-ghost use Rattle.fewest_terms.specs.Leaves.{verdict_at as trie_verdict};
+ghost use Rattle.verdict_map.specs.Tries.{verdict_at as trie_verdict};
 ghost use Rattle.policy_compare.specs.Pairs.{ArePairs, has_pair, is_new, is_pair};
 
 use crate::Change;

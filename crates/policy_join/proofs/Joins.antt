@@ -2,7 +2,7 @@
 use Rattle.std.proofs.Common.{◌≡◌, ◌<◌, ◌+◌, ◌++◌, ◌^◌, ℕ, Bool, List, [], ◌∷◌, length, map, take, get_or, sym, ap, ◌∙◌}
 use Rattle.std.proofs.lemmas.List.{map_more}
 use Rattle.spf_grammar.specs.declared.verdict.Verdict.{Verdict}
-use Rattle.fewest_terms.specs.Leaves.{verdict_at as trie_verdict}
+use Rattle.verdict_map.specs.Tries.{verdict_at as trie_verdict}
 use Rattle.verdict_map.specs.declared.tries.VerdictTries.{VerdictTries}
 use Rattle.policy_join.specs.Strength.{chosen, of_none, joined}
 use Rattle.policy_join.specs.Tries.{AreChosen, IsEverywhere, IsJoin, verdicts4, verdicts6}

@@ -2,7 +2,7 @@
 use Rattle.std.specs.Prelude.{ℕ, ◌≡◌, ◌<◌, ◌^◌, Bool, List, map}
 use Rattle.addr_bits.specs.Prefix.{Cidr}
 use Rattle.spf_grammar.specs.declared.verdict.Verdict.{Verdict}
-use Rattle.fewest_terms.specs.Leaves.{verdict_at as trie_verdict}
+use Rattle.verdict_map.specs.Tries.{verdict_at as trie_verdict}
 use Rattle.verdict_map.specs.declared.tries.VerdictTries.{VerdictTries}
 use Rattle.policy_join.specs.Strength.{chosen, joined}
 

@@ -1,6 +1,6 @@
 //! One policy for several.
 ghost use Rattle.std.specs.Prelude.{◌≡◌, ◌<◌, ◌≤◌, ◌^◌, ℕ, IfOk, length};
-ghost use Rattle.fewest_terms.specs.Leaves.{verdict_at as trie_verdict};
+ghost use Rattle.verdict_map.specs.Tries.{verdict_at as trie_verdict};
 ghost use Rattle.policy_join.specs.Strength.{chosen, of_none};
 ghost use Rattle.policy_join.specs.Tries.{AreChosen, IsEverywhere, IsJoin};
 

@@ -17,7 +17,7 @@ use Rattle.spf_model.specs.Run.{says}
 use Rattle.symbolic_check.specs.Evaluation.{IsEvaluation}
 use Rattle.verdict_map.specs.declared.fault.VerdictFault.{VerdictFault}
 use Rattle.verdict_map.specs.Verdicts.{has_verdict, IsVerdictOf, HasVerdict, HaveVerdicts, IsRefused, IsFault}
-use Rattle.fewest_terms.specs.Leaves.{or_neutral, verdict_at as trie_verdict}
+use Rattle.verdict_map.specs.Tries.{or_neutral, verdict_at as trie_verdict}
 use Rattle.verdict_map.specs.declared.fault.VerdictFault.TheVariants.{Refused, Memory}
 use Rattle.policy_verdicts.specs.Policy.{StandsBefore, IsLeastRefused, IsPolicyFault, verdict_at}
 

@@ -15,7 +15,7 @@ use Rattle.spf_model.specs.declared.outcome.Outcome.TheVariants.{Is}
 use Rattle.verdict_map.specs.Verdicts.{has_verdict}
 use Rattle.verdict_map.specs.declared.fault.VerdictFault.{VerdictFault}
 use Rattle.verdict_map.specs.declared.fault.VerdictFault.TheVariants.{Refused, Memory}
-use Rattle.fewest_terms.specs.Leaves.{verdict_at as trie_verdict}
+use Rattle.verdict_map.specs.Tries.{verdict_at as trie_verdict}
 
 -- the verdict of an address, by its number in its family
 abbrev pub verdict_at : (v4 v6 : ℕ → Verdict) → Address → Verdict

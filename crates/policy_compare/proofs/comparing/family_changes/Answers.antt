@@ -1,5 +1,5 @@
 use Rattle.std.proofs.Common.{rules, refl, ◌∙◌}
-use Rattle.fewest_terms.specs.Leaves.{verdict_at as trie_verdict}
+use Rattle.verdict_map.specs.Tries.{verdict_at as trie_verdict}
 use Rattle.policy_compare.proofs.Leaves.{same_leaves}
 use Rattle.policy_compare.proofs.Listing.{begins, is_next, listed_more, all_listed_by}
 use Rattle.policy_compare.proofs.Telling.{pair_tells}

@@ -1,5 +1,5 @@
 use Rattle.std.specs.Prelude.{option_map}
-use Rattle.fewest_terms.specs.Leaves.{verdict_at as trie_verdict}
+use Rattle.verdict_map.specs.Tries.{verdict_at as trie_verdict}
 use Rattle.policy_compare.proofs.Listing.{IsListing, left}
 use Rattle.policy_compare.proofs.comparing.family_changes.Given as goal
 
