@@ -1,14 +1,15 @@
 -- What is due for words and files, whatever the jobs are.
-use Rattle.std.specs.Prelude.{ℕ, ◌≡◌, ◌≤◌, ◌⊎◌, ◌||◌, Bool, true, false, IsTrue, List, [], ◌∷◌, length, String}
+use Rattle.std.specs.Prelude.{ℕ, ◌≡◌, ◌≤◌, ◌+◌, ◌⊎◌, ◌||◌, Bool, true, false, IsTrue, List, [], ◌∷◌, length, String}
 use Rattle.std.specs.Prelude.{Ok, Err, Result}
 use Rattle.std.specs.declared.alloc.Global.{Global}
+use Rattle.spfc_outer.specs.Opened.{OpensFirst}
 use Rattle.spfc_outer.specs.Seen.{Contents, FilesSeen}
 use Rattle.spfc_words.specs.Words.{texts}
 use Rattle.spfc_words.specs.declared.input.Input.{Input}
 use Rattle.loading.specs.declared.loaded.Loaded.{Loaded}
 use Rattle.loading.specs.declared.refusal.Refusal.{Refusal}
 use Rattle.loading.specs.Lines.{usage_line, read_fault_line}
-use Rattle.loading.specs.Loading.{Loads, FaultAmong}
+use Rattle.loading.specs.Loading.{Loads, FaultAmong, files_of, most_bytes}
 use Rattle.loading.specs.Refusals.{refusal_status, refusal_line}
 use Rattle.jobs.specs.declared.output.Output.{Output}
 use Rattle.jobs.specs.Meaning.{Due, Refuses, Gives, Meaning, Program}
@@ -68,6 +69,14 @@ pub record IsReadFault (p : Program) (g : Given) (after : FilesSeen) (file : Lis
   pub job : p.Job
   pub is_job : p.Spells g.words job
   pub fault : FaultAmong g.files after (p.meaning job).inputs file
+
+-- The files that a run opened: none, or the first files of the job that the words spell, in order, each in its place.
+-- Of each at most one byte more was taken than a file may have.
+pub data OpensInputs (p : Program) (g : Given) (after : FilesSeen) : Type 0 where
+  opens_none : after.opened ≡ g.files.opened → OpensInputs p g after
+  opens_first : (job : p.Job) → p.Spells g.words job
+      → OpensFirst (most_bytes + 1) g.files.opened after.opened (files_of (p.meaning job).inputs)
+      → OpensInputs p g after
 
 -- a line that is due, with its status
 pub data LineDue (p : Program) (g : Given) (after : FilesSeen) (status : ℕ) (line : List ℕ) : Type 0 where

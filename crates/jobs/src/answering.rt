@@ -3,7 +3,7 @@ ghost use Rattle.std.specs.Prelude.{◌≡◌, IfOk};
 ghost use Rattle.spfc_outer.specs.Seen.{Keeps};
 ghost use Rattle.loading.specs.Refusals.{refusal_status, refusal_line};
 ghost use Rattle.jobs.specs.Meaning.{program};
-ghost use Rattle.jobs.specs.Given.{given};
+ghost use Rattle.jobs.specs.Given.{given, OpensInputs};
 ghost use Rattle.jobs.specs.Answer.{IsAnswer};
 
 use crate::{Job, Output};
@@ -28,6 +28,7 @@ pub fn answer_words<J: Job, F: Files>(
     files: &mut F,
 ) -> Result<Answer, AllocError>
     ensures keeps { Keeps (F.seen files.old) (F.seen files.new) }
+    ensures opened { OpensInputs (program J.spells J.meaning) (given words.now (F.seen files.old)) (F.seen files.new) }
     ensures answer { IfOk result
         (IsAnswer (program J.spells J.meaning) (given words.now (F.seen files.old)) (F.seen files.new)) }
 {

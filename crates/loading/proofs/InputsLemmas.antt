@@ -8,6 +8,8 @@ use Rattle.std.proofs.lemmas.List.{take_all, length-take}
 use Rattle.std.proofs.lemmas.Slice.Eq.{bytes_eq-Decides}
 use Rattle.std.specs.List.{prefix_len}
 use Rattle.spfc_outer.specs.Moved.{IsLoaded}
+use Rattle.spfc_outer.specs.Opened.{Opening, Opens, OpensFirst}
+use Rattle.spfc_outer.proofs.OpenedLemmas.{opens_next, opens_at}
 use Rattle.spfc_outer.specs.Seen.{Contents, FilesSeen, Keeps}
 use Rattle.spfc_words.specs.declared.input.Input.{Input}
 use Rattle.loading.specs.declared.loaded.Loaded.{Loaded}
@@ -16,7 +18,7 @@ use Rattle.loading.specs.declared.refusal.Refusal.TheVariants.{LongFile}
 use Rattle.loading.specs.declared.stop.Stop.{Stop}
 use Rattle.loading.specs.declared.stop.Stop.TheVariants.{Refused, ReadFault}
 use Rattle.loading.specs.Loading.{FileDue, long_file, whole, most_bytes, nothing, Then, InputDue, InputsDue, Loads}
-use Rattle.loading.specs.Loading.{inputs_before, FaultAmong, StopsAt, StopsAmong}
+use Rattle.loading.specs.Loading.{inputs_before, files_of, FaultAmong, StopsAt, StopsAmong}
 use Rattle.loading.proofs.StopLemmas.{fails_later}
 
 -- ---- one file
@@ -98,6 +100,25 @@ before_at inputs i d lt =
     let file : List ℕ = (get_or inputs i d).file in
     let same : bytes_eq file file ≡ true = (bytes_eq-Decides file file).1 refl in
     front_at (λ input. not (bytes_eq input.file file)) inputs i d lt (ap not same)
+
+-- ---- what was opened
+-- the files before a place were opened, and then the file there
+pub files_next : (most : ℕ) (start before after : List Opening) (inputs : List Input) (i : ℕ) (d : Input) → i < length inputs
+    → Opens most start before (take i (files_of inputs)) → Opens most before after ((get_or inputs i d).file ∷ [])
+    → Opens most start after (take (i + 1) (files_of inputs))
+files_next most start before after inputs i d lt one two =
+    let name : List ℕ = (get_or inputs i d).file in
+    opens_next most start before after (files_of inputs) i name (omega (arith, lt, as_many inputs)) one
+    (subst (λ x. Opens most before after (x ∷ [])) (sym (file_at inputs i d name lt)) two)
+
+-- the files before a place were opened, and then perhaps the file there
+pub files_first : (most : ℕ) (start before after : List Opening) (inputs : List Input) (i : ℕ) (d : Input) → i < length inputs
+    → Opens most start before (take i (files_of inputs)) → OpensFirst most before after ((get_or inputs i d).file ∷ [])
+    → OpensFirst most start after (files_of inputs)
+files_first most start before after inputs i d lt one two =
+    let name : List ℕ = (get_or inputs i d).file in
+    opens_at most start before after (files_of inputs) i name (omega (arith, lt, as_many inputs)) one
+    (subst (λ x. OpensFirst most before after (x ∷ [])) (sym (file_at inputs i d name lt)) two)
 
 -- ---- what the files before a place and the file there come to
 pub loaded_at : (held : Contents) (inputs : List Input) (i : ℕ) (d : Input) (loaded more : Loaded) → i < length inputs

@@ -94,6 +94,10 @@ InputsDue held loaded (input ∷ inputs) found =
     (next : Result Loaded Refusal) × InputDue held loaded input next
     × Then next (λ more due. InputsDue held more inputs due) found
 
+-- the names of the files, each in its place: a file that two inputs name is there twice
+abbrev pub files_of : List Input → List (List ℕ)
+files_of inputs = map (λ input. input.file) inputs
+
 -- what the files of a job come to
 abbrev pub Loads : Contents → List Input → Result Loaded Refusal → Type 0
 Loads held inputs found = InputsDue held nothing inputs found
@@ -110,7 +114,7 @@ inputs_before name inputs = take_while (λ input. not (bytes_eq input.file name)
 -- The calls of a file of the job failed, which is that of the last fault. The files before its first place were read,
 -- so nothing is refused before it.
 pub record FaultAmong (before after : FilesSeen) (inputs : List Input) (file : List ℕ) : Type 0 where
-  pub taken_up : Contains (map (λ input. input.file) inputs) file
+  pub taken_up : Contains (files_of inputs) file
   pub fails : FailsAt before after file
   pub none_before : IsTrue before.told → (loaded : Loaded) × Loads before.held (inputs_before file inputs) (Ok loaded)
 

@@ -1,8 +1,9 @@
 //! Reading the files of a job, in order.
-ghost use Rattle.std.specs.Prelude.{◌≡◌, ◌+◌, [], Ok, Err, IsTrue, IfOk, IfErr, OnOk};
+ghost use Rattle.std.specs.Prelude.{◌≡◌, ◌+◌, ◌∷◌, [], Ok, Err, IsTrue, IfOk, IfErr, OnOk};
 ghost use Rattle.spfc_outer.specs.Moved.{Takes};
+ghost use Rattle.spfc_outer.specs.Opened.{Opens, OpensFirst};
 ghost use Rattle.spfc_outer.specs.Seen.{Keeps};
-ghost use Rattle.loading.specs.Loading.{FileDue, ZonesDue, InputDue, Loads, nothing, most_bytes};
+ghost use Rattle.loading.specs.Loading.{FileDue, ZonesDue, InputDue, Loads, nothing, most_bytes, files_of};
 ghost use Rattle.loading.specs.Loading.{StopsAt, StopsAmong};
 ghost use Rattle.loading.specs.Memory.{ErrorIs};
 
@@ -30,6 +31,8 @@ pub fn load_inputs<F: Files>(
     ensures done { IsTrue (F.seen files.old).told
         → IfOk result (λ loaded. Loads (F.seen files.old).held inputs.now (Ok loaded)) }
     ensures none { inputs.now ≡ [] → (result ≡ Ok nothing) × (files.new ≡ files.old) }
+    ensures opens { OpensFirst (most_bytes + 1)
+        (F.seen files.old).opened (F.seen files.new).opened (files_of inputs.now) }
     ensures stops { IfErr result (ErrorIs (StopsAmong (F.seen files.old) (F.seen files.new) inputs.now)) }
 {
     let mut loaded = Loaded::new(alloc);
@@ -52,6 +55,10 @@ fn read_input<F: Files>(
     ensures keeps { Keeps (F.seen files.old) (F.seen files.new) }
     ensures done { IsTrue (F.seen files.old).told
         → OnOk result (InputDue (F.seen files.old).held loaded.old input.now (Ok loaded.new)) }
+    ensures opens { OpensFirst (most_bytes + 1)
+        (F.seen files.old).opened (F.seen files.new).opened (input.now.file ∷ []) }
+    ensures opened { OnOk result
+        (Opens (most_bytes + 1) (F.seen files.old).opened (F.seen files.new).opened (input.now.file ∷ [])) }
     ensures stops { IfErr result (ErrorIs (StopsAt (F.seen files.old) (F.seen files.new) input.now.file
         (λ why. InputDue (F.seen files.old).held loaded.old input.now (Err why)))) }
 {
@@ -77,6 +84,9 @@ fn read_zone<F: Files>(
     ensures keeps { Keeps (F.seen files.old) (F.seen files.new) }
     ensures done { IsTrue (F.seen files.old).told → OnOk result
         (ZonesDue ((F.seen files.old).held file.now) zones.old origin.now file.now (Ok zones.new)) }
+    ensures opens { OpensFirst (most_bytes + 1) (F.seen files.old).opened (F.seen files.new).opened (file.now ∷ []) }
+    ensures opened { OnOk result
+        (Opens (most_bytes + 1) (F.seen files.old).opened (F.seen files.new).opened (file.now ∷ [])) }
     ensures stops { IfErr result (ErrorIs (StopsAt (F.seen files.old) (F.seen files.new) file.now
         (λ why. ZonesDue ((F.seen files.old).held file.now) zones.old origin.now file.now (Err why)))) }
 {
@@ -100,6 +110,9 @@ pub fn read_file<F: Files>(
         → IfOk result (λ contents. FileDue ((F.seen files.old).held file.now) file.now (Ok contents)) }
     ensures takes { IsTrue (F.seen files.old).told → Takes (most_bytes + 1) ((F.seen files.old).held file.now)
         (files.new ≡ files.old) (F.is_chosen files.new) (F.rest files.new) }
+    ensures opens { OpensFirst (most_bytes + 1) (F.seen files.old).opened (F.seen files.new).opened (file.now ∷ []) }
+    ensures opened { OnOk result
+        (Opens (most_bytes + 1) (F.seen files.old).opened (F.seen files.new).opened (file.now ∷ [])) }
     ensures stops { IfErr result (ErrorIs (StopsAt (F.seen files.old) (F.seen files.new) file.now
         (λ why. FileDue ((F.seen files.old).held file.now) file.now (Err why)))) }
 {

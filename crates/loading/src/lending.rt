@@ -1,5 +1,5 @@
 //! Lending a zone beside the zones of its group.
-ghost use Rattle.std.specs.Prelude.{◌≡◌, Ok, Err, OnOk, IfErr};
+ghost use Rattle.std.specs.Prelude.{◌≡◌, Ok, Err, OnOk, OnErr, IfErr};
 ghost use Rattle.dns_name.specs.Name.{IsName};
 ghost use Rattle.zone_answers.specs.Lend.{AreLendable};
 ghost use Rattle.loading.specs.Loading.{LendDue};
@@ -12,10 +12,12 @@ use zone_answers::{LendFault, Zones};
 
 /// Lends the records beside the zones before them, none of which has this origin: one that has is answered as want of
 /// memory. Refused are more than 65,536 records in all, and an alias beside other records (RFC 1034, section 3.6.2).
+/// A refusal and want of memory leave the zones as they were.
 pub fn lend(zones: &mut Zones, origin: &Name, records: Records) -> Result<(), OrMemory<Refusal>>
     requires { AreLendable origin.now records }
     ensures lent { OnOk result (LendDue zones.old origin.now records (Ok zones.new)) }
     ensures refused { IfErr result (ErrorIs (λ why. LendDue zones.old origin.now records (Err why))) }
+    ensures stays { OnErr result (zones.new ≡ zones.old) }
 {
     match zones.lend(origin.clone()?, records) {
         Ok(()) => Ok(()),

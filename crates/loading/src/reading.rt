@@ -1,11 +1,12 @@
 //! Reading the records of a zone's file, piece by piece.
-ghost use Rattle.std.specs.Prelude.{◌≡◌, ◌<◌, ◌≤◌, ◌+◌, ◌^◌, ◌++◌, ℕ, List, Some, Ok, Err, length, IsTrue, IsErrOf};
-ghost use Rattle.std.specs.Prelude.{IfOk, IfErr};
+ghost use Rattle.std.specs.Prelude.{◌≡◌, ◌<◌, ◌≤◌, ◌+◌, ◌^◌, ◌++◌, ◌∷◌, [], ℕ, List, Some, Ok, Err, length};
+ghost use Rattle.std.specs.Prelude.{IfOk, IfErr, OnOk, IsTrue, IsErrOf};
 ghost use Rattle.master_reader.specs.Reading.{Reads as HasReading, Faults};
 ghost use Rattle.master_reader.specs.Readers.{FaultIs};
 ghost use Rattle.zone_answers.specs.Lend.{AreLendable};
 ghost use Rattle.spfc_outer.specs.Causes.{HasOpenCause};
 ghost use Rattle.spfc_outer.specs.Moved.{Takes, TakesAtMost};
+ghost use Rattle.spfc_outer.specs.Opened.{TakesMore, Opens, OpensFirst};
 ghost use Rattle.spfc_outer.specs.Seen.{Keeps, FailsAt};
 ghost use Rattle.loading.specs.Loading.{RecordsDue, IsRefusal, StopsAt, most_bytes};
 ghost use Rattle.loading.specs.Memory.{ErrorIs};
@@ -120,6 +121,7 @@ fn take_rest<F: Files>(alloc: Global, files: &mut F, origin: &Name) -> Result<Ta
     ensures taken { IfOk result (HasRead (F.seen files.old).told origin.now (F.rest files.old)) }
     ensures takes { IsTrue (F.seen files.old).told
         → TakesAtMost (most_bytes + 1) (F.rest files.old) (F.rest files.new) }
+    ensures takes_more { TakesMore (most_bytes + 1) (F.seen files.old).opened (F.seen files.new).opened }
     ensures named { IsTrue (F.seen files.old).told → IsErrOf result OpenFault.Failed
         → (F.seen files.new).last_fault ≡ Some (F.chosen_name files.old) }
     ensures cause { HasOpenCause (F.seen files.old).faults (F.seen files.new).faults result }
@@ -153,6 +155,9 @@ fn take_file<F: Files>(
     ensures loaded { IfOk result (HasLoaded (F.seen files.old).told origin.now ((F.seen files.old).held file.now)) }
     ensures takes { IsTrue (F.seen files.old).told → Takes (most_bytes + 1) ((F.seen files.old).held file.now)
         (files.new ≡ files.old) (F.is_chosen files.new) (F.rest files.new) }
+    ensures opens { OpensFirst (most_bytes + 1) (F.seen files.old).opened (F.seen files.new).opened (file.now ∷ []) }
+    ensures opened { OnOk result
+        (Opens (most_bytes + 1) (F.seen files.old).opened (F.seen files.new).opened (file.now ∷ [])) }
     ensures fails { IsErrOf result OpenFault.Failed → FailsAt (F.seen files.old) (F.seen files.new) file.now }
 {
     match files.open_file(file)? {
@@ -179,6 +184,9 @@ pub fn read_records<F: Files>(
     ensures lendable { IfOk result (AreLendable origin.now) }
     ensures takes { IsTrue (F.seen files.old).told → Takes (most_bytes + 1) ((F.seen files.old).held file.now)
         (files.new ≡ files.old) (F.is_chosen files.new) (F.rest files.new) }
+    ensures opens { OpensFirst (most_bytes + 1) (F.seen files.old).opened (F.seen files.new).opened (file.now ∷ []) }
+    ensures opened { OnOk result
+        (Opens (most_bytes + 1) (F.seen files.old).opened (F.seen files.new).opened (file.now ∷ [])) }
     ensures stops { IfErr result (ErrorIs (StopsAt (F.seen files.old) (F.seen files.new) file.now
         (λ why. RecordsDue ((F.seen files.old).held file.now) origin.now file.now (Err why)))) }
 {

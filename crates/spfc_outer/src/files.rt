@@ -4,6 +4,7 @@ ghost use Rattle.std.specs.Prelude.{IsErrOf, IfOk, OnOk, OnErr};
 ghost use Rattle.std.specs.Io.{ReadsAtMost};
 ghost use Rattle.spfc_outer.specs.declared.files.OpenFault.TheVariants.{Failed as CountedFault, Memory};
 ghost use Rattle.spfc_outer.specs.Causes.{HasCause, HasOpenCause};
+ghost use Rattle.spfc_outer.specs.Opened.{open_next, take_more};
 ghost use Rattle.spfc_outer.specs.Seen.{FilesSeen};
 
 use std::alloc::AllocError;
@@ -48,8 +49,8 @@ impl From<AllocError> for OpenFault {
 
 /// Files that are chosen by name, one at a time, and read in pieces. A name is a row of bytes.
 pub trait Files {
-    /// What is seen from outside: whether the contents are told, the contents, the last fault, the faults, and whether
-    /// no call fails from here on.
+    /// What is seen from outside: whether the contents are told, the contents, the last fault, the faults, whether no
+    /// call fails from here on, and the names that were opened so far, with how many bytes were taken of each.
     ghost seen: { Self → FilesSeen };
 
     /// Whether a file is chosen.
@@ -82,6 +83,10 @@ pub trait Files {
             → (seen self.new).last_fault ≡ Some name.now }
         ensures memory { IsErrOf result OpenFault.Memory → self.new ≡ self.old }
 
+        ensures opened { OnOk result ((seen self.new).opened ≡ open_next name.now (seen self.old).opened) }
+        ensures tried { IsErrOf result OpenFault.Failed
+            → (seen self.new).opened ≡ open_next name.now (seen self.old).opened }
+
         ensures cause { HasOpenCause (seen self.old).faults (seen self.new).faults result }
         ensures assured { IsTrue (seen self.old).is_assured → IsTrue (seen self.new).is_assured }
         ensures never_fails { IsTrue (seen self.old).is_assured → IsErrOf result OpenFault.Failed → ⊥ };
@@ -106,6 +111,9 @@ pub trait Files {
         ensures failed { IsTrue (seen self.old).told → OnErr result (rest self.new ≡ rest self.old) }
         ensures named { IsTrue (seen self.old).told
             → OnErr result ((seen self.new).last_fault ≡ Some (chosen_name self.old)) }
+
+        ensures taken { IfOk result (λ n. (seen self.new).opened ≡ take_more n (seen self.old).opened) }
+        ensures none_taken { OnErr result ((seen self.new).opened ≡ (seen self.old).opened) }
 
         ensures cause { HasCause (seen self.old).faults (seen self.new).faults result }
         ensures assured { IsTrue (seen self.old).is_assured → IsTrue (seen self.new).is_assured }

@@ -1,4 +1,5 @@
 //! Thin adapters over the host: its files, and its standard output and standard error. They tell nothing of content.
+use crate::openings::{Call, Next, Openings};
 use crate::{Failed, Files, OpenFault, Opened, Sink};
 use std::fs::File;
 use std::io::{ErrorKind, Read};
@@ -10,22 +11,40 @@ pub struct HostFiles {
     rt: HostRuntime,
     file: Option<File>,
     faults: u64,
+    openings: Openings,
 }
 
 impl HostFiles {
-    ghost use Rattle.std.specs.Prelude.{◌≡◌, false};
-    ghost use Rattle.spfc_outer.specs.Host.{host_files_faults, host_has_chosen};
+    ghost use Rattle.std.specs.Prelude.{◌≡◌, false, []};
+    ghost use Rattle.spfc_outer.specs.Host.{host_files_faults, host_files_opened, host_has_chosen};
 
-    /// The host's files, of which none is chosen.
+    /// The host's files, of which none was opened.
     pub fn new(rt: HostRuntime) -> HostFiles
         ensures faults { host_files_faults result ≡ 0 }
         ensures chosen { host_has_chosen result ≡ false }
+        ensures opened { host_files_opened result ≡ [] }
     {
         HostFiles {
             rt,
             file: None,
             faults: 0,
+            openings: Openings::new(),
         }
+    }
+}
+
+/// Opens the file of the host at this path; `None` where there is no such file.
+fn open_path(rt: &HostRuntime, name: &[u8]) -> Result<Option<File>, OpenFault> {
+    let Ok(path) = str::from_utf8(name) else {
+        return Err(OpenFault::Failed);
+    };
+    match File::open(rt, path) {
+        Ok(file) => Ok(Some(file)),
+        Err(error) => match error.kind() {
+            ErrorKind::NotFound => Ok(None),
+            ErrorKind::OutOfMemory => Err(OpenFault::Memory),
+            _ => Err(OpenFault::Failed),
+        },
     }
 }
 
@@ -42,35 +61,38 @@ impl Files for HostFiles {
     ghost rest = { λ _. [] };
 
     fn open_file(&mut self, name: &[u8]) -> Result<Opened, OpenFault> {
-        let Ok(path) = str::from_utf8(name) else {
-            self.file = None;
-            self.faults = self.faults.saturating_add(1);
-            return Err(OpenFault::Failed);
+        let found = match open_path(&self.rt, name) {
+            Err(OpenFault::Memory) => return Err(OpenFault::Memory),
+            found => found,
         };
-        match File::open(&self.rt, path) {
-            Ok(file) => {
+        self.file = None;
+        self.openings = Openings::after(&Next {
+            before: &self.openings,
+            call: Call::Open(name),
+        });
+        match found {
+            Ok(Some(file)) => {
                 self.file = Some(file);
                 Ok(Opened::Chosen)
             }
-            Err(error) => match error.kind() {
-                ErrorKind::NotFound => {
-                    self.file = None;
-                    Ok(Opened::Missing)
-                }
-                ErrorKind::OutOfMemory => Err(OpenFault::Memory),
-                _ => {
-                    self.file = None;
-                    self.faults = self.faults.saturating_add(1);
-                    Err(OpenFault::Failed)
-                }
-            },
+            Ok(None) => Ok(Opened::Missing),
+            Err(_) => {
+                self.faults = self.faults.saturating_add(1);
+                Err(OpenFault::Failed)
+            }
         }
     }
 
     fn read(&mut self, buf: &mut [u8]) -> Result<usize, Failed> {
         match &mut self.file {
             Some(file) => match file.read(buf) {
-                Ok(count) => Ok(count),
+                Ok(count) => {
+                    self.openings = Openings::after(&Next {
+                        before: &self.openings,
+                        call: Call::Take(count),
+                    });
+                    Ok(count)
+                }
                 Err(_) => {
                     self.faults = self.faults.saturating_add(1);
                     Err(Failed)

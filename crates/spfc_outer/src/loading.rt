@@ -1,8 +1,9 @@
 //! Reads a file whole, up to a limit.
-ghost use Rattle.std.specs.Prelude.{◌≡◌, ◌-◌, ◌<◌, ◌≤◌, ◌++◌, [], Some, true, false, length, take, IsTrue, IsErrOf};
-ghost use Rattle.std.specs.Prelude.{IfOk, OnOk};
+ghost use Rattle.std.specs.Prelude.{◌≡◌, ◌-◌, ◌<◌, ◌≤◌, ◌++◌, ◌∷◌, [], Some, true, false, length, take};
+ghost use Rattle.std.specs.Prelude.{IfOk, OnOk, IsTrue, IsErrOf};
 ghost use Rattle.spfc_outer.specs.Causes.{HasOpenCause};
 ghost use Rattle.spfc_outer.specs.Moved.{IsLoaded, Takes, TakesAtMost};
+ghost use Rattle.spfc_outer.specs.Opened.{take_more, TakesMore, Opens, OpensFirst};
 ghost use Rattle.spfc_outer.specs.Seen.{Keeps, FailsAt};
 
 use crate::{Files, OpenFault, Opened};
@@ -21,6 +22,8 @@ pub fn load<F: Files>(
     ensures loaded { IsTrue (F.seen files.old).told → IfOk result (IsLoaded ((F.seen files.old).held name.now) most) }
     ensures takes { IsTrue (F.seen files.old).told → Takes most ((F.seen files.old).held name.now)
         (files.new ≡ files.old) (F.is_chosen files.new) (F.rest files.new) }
+    ensures opens { OpensFirst most (F.seen files.old).opened (F.seen files.new).opened (name.now ∷ []) }
+    ensures opened { OnOk result (Opens most (F.seen files.old).opened (F.seen files.new).opened (name.now ∷ [])) }
     ensures fails { IsErrOf result OpenFault.Failed → FailsAt (F.seen files.old) (F.seen files.new) name.now }
 {
     match files.open_file(name)? {
@@ -39,6 +42,7 @@ fn read_rest<F: Files>(alloc: Global, files: &mut F, most: usize) -> Result<Byte
     ensures held { (F.seen files.new).held ≡ (F.seen files.old).held }
     ensures bytes { IsTrue (F.seen files.old).told → IfOk result (λ bytes. bytes ≡ take most (F.rest files.old)) }
     ensures takes { IsTrue (F.seen files.old).told → TakesAtMost most (F.rest files.old) (F.rest files.new) }
+    ensures takes_more { TakesMore most (F.seen files.old).opened (F.seen files.new).opened }
     ensures named { IsTrue (F.seen files.old).told → IsErrOf result OpenFault.Failed
         → (F.seen files.new).last_fault ≡ Some (F.chosen_name files.old) }
     ensures cause { HasOpenCause (F.seen files.old).faults (F.seen files.new).faults result }
@@ -70,6 +74,9 @@ fn read_piece<F: Files>(files: &mut F, bytes: &mut Bytes, most: usize) -> Result
         → OnOk result (bytes.old ++ F.rest files.old ≡ bytes.new ++ F.rest files.new) }
     ensures takes { IsTrue (F.seen files.old).told
         → TakesAtMost (most - length bytes.old) (F.rest files.old) (F.rest files.new) }
+    ensures takes_more { TakesMore (most - length bytes.old) (F.seen files.old).opened (F.seen files.new).opened }
+    ensures counted { OnOk result ((F.seen files.new).opened
+        ≡ take_more (length bytes.new - length bytes.old) (F.seen files.old).opened) }
     ensures end { IsTrue (F.seen files.old).told → result ≡ Ok true → F.rest files.new ≡ [] }
     ensures grows { result ≡ Ok false → length bytes.old < length bytes.new }
     ensures within { OnOk result (length bytes.new ≤ most) }

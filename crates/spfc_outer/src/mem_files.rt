@@ -4,6 +4,7 @@ ghost use Rattle.spfc_outer.specs.Held.{look_up, name_at, contents_at};
 
 use crate::calls::count_call;
 use crate::last_fault::{LastFault, Name};
+use crate::openings::{Call, Next, Openings};
 use crate::{Calls, Failed, FileList, Files, OpenFault, Opened};
 use addr_bits::Bytes;
 
@@ -16,6 +17,7 @@ pub struct MemFiles {
     calls: u64,
     faults: u64,
     fault: LastFault,
+    openings: Openings,
     chosen: bool,
     index: usize,
     at: usize,
@@ -70,7 +72,7 @@ fn move_bytes(bytes: &[u8], most: usize, buf: &mut [u8]) -> usize
 impl MemFiles {
     ghost use Rattle.spfc_outer.specs.MemFiles.{IsNewFiles};
 
-    /// Files of which none is chosen. A read takes at most `most` bytes. The calls of both methods are numbered
+    /// Files of which none was opened. A read takes at most `most` bytes. The calls of both methods are numbered
     /// together from 1, and those whose number is in `fails` fail.
     pub fn new(files: FileList, most: usize, fails: Calls) -> MemFiles
         requires { 1 ≤ most }
@@ -83,6 +85,7 @@ impl MemFiles {
             calls: 0,
             faults: 0,
             fault: LastFault::new(),
+            openings: Openings::new(),
             chosen: false,
             index: 0,
             at: 0,
@@ -97,6 +100,7 @@ impl Files for MemFiles {
     ghost use Rattle.spfc_outer.specs.Causes.{HasCause, HasOpenCause};
     ghost use Rattle.spfc_outer.specs.Held.{look_up, name_at};
     ghost use Rattle.spfc_outer.specs.MemFiles.{mem_rest, mem_files_seen, CountsCall};
+    ghost use Rattle.spfc_outer.specs.Opened.{open_next, take_more};
 
     ghost seen = { mem_files_seen };
 
@@ -118,8 +122,14 @@ impl Files for MemFiles {
 
         ensures same_fault { OnOk result (self.new.fault.name ≡ self.old.fault.name) }
         ensures named { OnErr result (self.new.fault.name ≡ Some name.now) }
+
+        ensures opened { self.new.openings.list ≡ open_next name.now self.old.openings.list }
     {
         self.chosen = false;
+        self.openings = Openings::after(&Next {
+            before: &self.openings,
+            call: Call::Open(name),
+        });
         if count_call(self.fails.as_slice(), &mut self.calls) {
             self.faults = self.faults.saturating_add(1);
             self.fault = LastFault::at(&Name { bytes: name });
@@ -151,6 +161,9 @@ impl Files for MemFiles {
 
         ensures same_fault { OnOk result (self.new.fault.name ≡ self.old.fault.name) }
         ensures named { OnErr result (self.new.fault.name ≡ Some (name_at self.old.files self.old.index)) }
+
+        ensures counted { IfOk result (λ n. self.new.openings.list ≡ take_more n self.old.openings.list) }
+        ensures none_taken { OnErr result (self.new.openings.list ≡ self.old.openings.list) }
     {
         if count_call(self.fails.as_slice(), &mut self.calls) {
             self.faults = self.faults.saturating_add(1);
@@ -162,6 +175,10 @@ impl Files for MemFiles {
         let contents = contents_of(self.files.as_slice(), self.index);
         let count = move_bytes(&contents[self.at..], self.most, buf);
         self.at += count;
+        self.openings = Openings::after(&Next {
+            before: &self.openings,
+            call: Call::Take(count),
+        });
         Ok(count)
     }
 }

@@ -1,5 +1,6 @@
 //! The top call.
 ghost use Rattle.std.specs.Prelude.{◌≡◌, ◌≤◌};
+ghost use Rattle.jobs.specs.Given.{given, OpensInputs};
 ghost use Rattle.jobs.specs.Turn.{Ended, turn, step, hearing, IsFindingStatus, HasDone, HasBest, HasFound};
 ghost use Rattle.jobs.specs.Turn.{HasUsage, HasReadFault, HasWriteFault, HasNone, IsComplete, IsAssured};
 ghost use Rattle.spfc_top.specs.AnyJob.{jobs};
@@ -95,12 +96,18 @@ pub fn run<F: Files, K: Sink, E: Sink>(
     ensures assured { IsAssured jobs (turn words.now
         (step F.seen files.old files.new) (step K.seen out.old out.new) (step E.seen err.old err.new)
         (hearing (λ b. hears b) auditors.old auditors.new)) result }
+
+    // At each status, the names that were opened since are the first of the files that the job of the words reads, in
+    // order, each once in its place, and at most 8,388,609 bytes of each were taken. No file is opened where the words
+    // give no job, or a job without files, as `trial`. All files tell this, those of the host too. A call that found no
+    // memory counts as no call.
+    ensures opened { OpensInputs jobs (given words.now (F.seen files.old)) (F.seen files.new) }
 {
     end(alloc, words, files, out, err, auditors)
 }
 
-/// All that the top call promises, as one fact by cases: what is due is computed first, then the
-/// listeners are told its questions, and then it is written.
+/// All that the top call promises, as one fact by cases, and which files it opened: what is due is computed first, then
+/// the listeners are told its questions, and then it is written.
 fn end<F: Files, K: Sink, E: Sink>(
     alloc: Global,
     words: &[String],
@@ -109,7 +116,8 @@ fn end<F: Files, K: Sink, E: Sink>(
     err: &mut E,
     auditors: &mut Vec<Box<dyn Auditor>>,
 ) -> u8
-    ensures { Ended jobs (turn words.now
+    ensures opened { OpensInputs jobs (given words.now (F.seen files.old)) (F.seen files.new) }
+    ensures ended { Ended jobs (turn words.now
         (step F.seen files.old files.new) (step K.seen out.old out.new) (step E.seen err.old err.new)
         (hearing (λ b. hears b) auditors.old auditors.new)) result }
 {

@@ -1,6 +1,7 @@
-use Rattle.std.proofs.Common.{rules, subst, sym, IsTrue}
+use Rattle.std.proofs.Common.{rules, refl, subst, sym, IsTrue}
+use Rattle.spfc_outer.proofs.OpenedLemmas.{opens_none, opens_nothing}
 use Rattle.loading.proofs.StopLemmas.{error_also, keeps_both}
-use Rattle.loading.proofs.InputsLemmas.{loaded_at, stops_at}
+use Rattle.loading.proofs.InputsLemmas.{loaded_at, stops_at, files_next, files_first}
 use Rattle.loading.proofs.inputs.load_inputs.Goals as goal
 
 pub returns-in_err-read_input-clause-stops : goal.returns-in_err-read_input-clause-stops
@@ -12,13 +13,29 @@ returns-in_err-read_input-clause-stops g c =
     (rw c.input-item.is at c.in_err-read_input.ensures.stops) in
     search (rules, stops)
 
+pub returns-in_err-read_input-clause-opens : goal.returns-in_err-read_input-clause-opens
+returns-in_err-read_input-clause-opens g c =
+    files_first _ _ _ _ c.args.inputs.now c.loop-input.input-index c.input-item.result (search rules)
+    c.loop-input.invariant.opened (rw c.input-item.is at c.in_err-read_input.ensures.opens)
+
 pub loop-input-preserved : goal.loop-input-preserved
 loop-input-preserved g c =
     let i = c.loop-input.invariant in
     let e = c.in_ok-read_input.ensures in
     record {
       keeps = keeps_both _ _ _ i.keeps e.keeps;
+      opened = files_next _ _ _ _ c.args.inputs.now c.loop-input.input-index c.input-item.result (search rules) i.opened
+          (rw (← c.input-item.is) e.opened);
       loaded = λ told. loaded_at (g.F.Files.seen c.args.files.now).held c.args.inputs.now c.loop-input.input-index
           c.input-item.result c.loop-input.loaded c.read_input.new.loaded (search rules) (i.loaded told)
           (rw (← c.input-item.is, ← i.keeps.held) (e.done (subst (λ u. IsTrue u) (sym i.keeps.told) told)));
     }
+
+pub loop-input-init : goal.loop-input-init
+loop-input-init g c = record { keeps = search rules; opened = opens_none _ _; loaded = λ told. refl }
+
+pub returns-clause-opens : goal.returns-clause-opens
+returns-clause-opens g c = record { count = c.loop-input.input-index; opens = c.loop-input.invariant.opened }
+
+pub returns-then-is_empty-clause-opens : goal.returns-then-is_empty-clause-opens
+returns-then-is_empty-clause-opens g c = opens_nothing _ _ _ _ refl

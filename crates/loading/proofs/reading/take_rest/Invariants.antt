@@ -1,4 +1,5 @@
 use Rattle.std.proofs.Common.{◌≡◌, ◌≤◌, ◌++◌, ◌-◌, ℕ, List, IsTrue}
+use Rattle.spfc_outer.specs.Opened.{take_more}
 use Rattle.loading.specs.Reading.{HasTaken}
 use Rattle.loading.proofs.reading.take_rest.Given as goal
 
@@ -12,6 +13,7 @@ invariant-loop-taken g l = record {
   taken : (bytes : List ℕ) × HasTaken l.origin bytes l.taken
       × (IsTrue (g.F.Files.seen l.fn.files).told → bytes ++ g.F.Files.rest l.files ≡ g.F.Files.rest l.fn.files);
   within : l.taken.count ≤ 8388609;
+  counted : (g.F.Files.seen l.files).opened ≡ take_more l.taken.count (g.F.Files.seen l.fn.files).opened;
   later : (g.F.Files.seen l.fn.files).faults ≤ (g.F.Files.seen l.files).faults;
   assured : IsTrue (g.F.Files.seen l.fn.files).is_assured → IsTrue (g.F.Files.seen l.files).is_assured;
 }
