@@ -4,17 +4,17 @@ use Rattle.std.proofs.Common.{refl, sym, ◌∙◌, arith, ap, subst, inl, inr}
 use Rattle.std.proofs.lemmas.Bool.{false≢true}
 use Rattle.spfc_outer.specs.Seen.{FilesSeen}
 use Rattle.loading.specs.declared.loaded.Loaded.{Loaded}
-use Rattle.refusals.specs.declared.refusal.Refusal.{Refusal}
-use Rattle.refusals.specs.declared.refusal.Refusal.TheVariants.{NoFile, LongFile, BadZone, TooManyRecords, AliasAndOther}
-use Rattle.refusals.specs.declared.refusal.Refusal.TheVariants.{NoVerdict, Alias, Taken, TooBig, BadList, Denied}
-use Rattle.refusals.specs.Refusals.{refusal_status}
+use Rattle.loading.specs.declared.refusal.Refusal.{Refusal}
+use Rattle.loading.specs.declared.refusal.Refusal.TheVariants.{NoFile, LongFile, BadZone, TooManyRecords, AliasAndOther}
+use Rattle.loading.specs.declared.refusal.Refusal.TheVariants.{NoVerdict, Alias, Taken, TooBig, BadList, Denied}
+use Rattle.loading.specs.Refusals.{refusal_status}
 use Rattle.loading.proofs.OneLoading.{one_loading}
 use Rattle.jobs.specs.Meaning.{Due, Refuses, Gives, Meaning, Program, AreLawful, IsLawful}
 use Rattle.jobs.specs.Given.{Given, IsGiven, JobDue, Behind, IsReadFault, tells, LineDue, finding, usage, fault}
 use Rattle.jobs.specs.Given.{Writes, Says, spoken, WordsDue, no_job, job, OneIsDue}
 use Rattle.jobs.specs.Turn.{Turn, given_of, Gains, Ended, done, told, unwritten, untold, no_memory, unheard}
 use Rattle.jobs.specs.Turn.{HasDone, HasBest, HasFound, HasUsage, HasReadFault, HasWriteFault, HasNone, IsFindingStatus}
-use Rattle.jobs.specs.Turn.{IsComplete, IsAssured, Promises}
+use Rattle.jobs.specs.Turn.{IsComplete, IsAssured}
 
 -- ---- statuses
 pub finding_status : (why : Refusal) → IsFindingStatus (refusal_status why)
@@ -196,20 +196,6 @@ assured_of {p = p} {t = t} (untold due line is a b c same) tell sure =
     ]
 assured_of (no_memory is a b same) tell sure = inr is
 assured_of (unheard output is is_given a b c) tell sure = inr is
-
-pub promises_of : {p : Program} {t : Turn} {status : ℕ} → Ended p t status → Promises p t status
-promises_of ended = record {
-  range = range_of ended;
-  done = done_of ended;
-  best = best_of ended;
-  finding = finding_of ended;
-  usage = usage_of ended;
-  read_fault = read_fault_of ended;
-  write_fault = write_fault_of ended;
-  memory = memory_of ended;
-  complete = complete_of ended;
-  assured = assured_of ended;
-}
 
 -- ---- one thing is due
 one_behind : (m : Meaning) → IsLawful m → (x y : Result Loaded Refusal) (a b : Due) → x ≡ y → Behind x m.IsDue a

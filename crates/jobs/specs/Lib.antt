@@ -2,12 +2,3 @@ pub mod Answer
 pub mod Given
 pub mod Meaning
 pub mod Turn
-pub mod check
-pub mod compare
-pub mod compile
-pub mod deps
-pub mod join
-pub mod keep
-pub mod stale
-pub mod trial
-pub mod verify

@@ -1,5 +1,5 @@
 -- What a run does to files, sinks and listeners.
-use Rattle.std.specs.Prelude.{ℕ, ◌≡◌, ◌<◌, ◌≤◌, ◌⊎◌, List, [], ◌∷◌, length, map, String, Vec, IsTrue}
+use Rattle.std.specs.Prelude.{ℕ, ◌≡◌, ◌<◌, ◌⊎◌, List, [], ◌∷◌, length, map, String, Vec, IsTrue}
 use Rattle.std.specs.declared.alloc.Global.{Global}
 use Rattle.std.specs.Io.KnownBytes.{Appends}
 use Rattle.zone_answers.specs.declared.answer.Question.{Question}
@@ -8,9 +8,9 @@ use Rattle.spfc_outer.specs.Causes.{Rose}
 use Rattle.spfc_outer.specs.Moved.{AppendsPart}
 use Rattle.spfc_outer.specs.Seen.{FilesSeen, SinkSeen}
 use Rattle.spfc_words.specs.Words.{texts}
-use Rattle.refusals.specs.declared.refusal.Refusal.{Refusal}
-use Rattle.refusals.specs.Lines.{usage_line, read_fault_line}
-use Rattle.refusals.specs.Refusals.{refusal_status, refusal_line}
+use Rattle.loading.specs.declared.refusal.Refusal.{Refusal}
+use Rattle.loading.specs.Lines.{usage_line, read_fault_line}
+use Rattle.loading.specs.Refusals.{refusal_status, refusal_line}
 use Rattle.jobs.specs.declared.output.Output.{Output}
 use Rattle.jobs.specs.Meaning.{Program, Refuses, Gives}
 use Rattle.jobs.specs.Given.{Given, IsGiven, IsUsage, IsBestOutput, IsReadFault, LineDue, Spoken, WordsDue}
@@ -141,43 +141,3 @@ IsComplete p t status = IsTrue t.files.before.told → IsCalm t → EndsDue p (g
 -- and where they tell and all is sure
 abbrev pub IsAssured : Program → Turn → (status : ℕ) → Type 0
 IsAssured p t status = IsTrue t.files.before.told → IsSure p t → EndsDue p (given_of t) status
-
--- what a run promises, for each status, and in all
-pub record Promises (p : Program) (t : Turn) (status : ℕ) : Type 0 where
-  pub range : status ≤ 8
-  -- 0: the words give a job, each listener was told its questions, in order, and left or stayed, and `out` gained its
-  -- output. Where the job has no question to tell, as without `--trace`, the listeners are as they were.
-  pub done : status ≡ 0 → HasDone p t
-  -- That output is the best that the job can have: of `compile`, a shortest list with the verdicts of check_host, in
-  -- records that fit, of which no cut that fits has fewer, and whose names are free. The bytes are read as these
-  -- records, over which alone, and over the zones with them in place, check_host gives each address the same verdict,
-  -- by at most 10 lookups and no void lookup. Of `verify`, the numbers of terms and of records of a file that is read
-  -- as a chain of records: these fit, and of their list no cut that fits at their names has fewer; over them alone
-  -- check_host gives each address the verdict that it has over the zones, and no list that does has fewer terms.
-  -- Of `deps`, the questions that check_host asks for some address: over all other zones that answer them alike,
-  -- every address has the same outcome. Of `compare`, the changes from the verdicts of the first policy to those of
-  -- the second: `equal` exactly where these are the same for each address. Of `join`, a shortest list, in such
-  -- records at the first domain, of the strongest of the verdicts that check_host gives each address for the domains,
-  -- or of the weakest. Of `keep`, the kept list of the domain, which is read back with its domain, its limits and its
-  -- lines: over all other zones that agree with each line, every address has the same outcome. Of `stale`, whether
-  -- each line of the kept list agrees with the zones, or the question of the first that does not: where the file is
-  -- what was kept of a domain over some other zones, and is fresh, every address has the outcome that it has over
-  -- these.
-  pub best : status ≡ 0 → HasBest p t
-  -- 1, 2, 3 and 8: the words give a job, it is refused so, and `err` gained the line. At these statuses, at 4 and at
-  -- 5 the listeners are as they were.
-  pub finding : IsFindingStatus status → HasFound p t status
-  -- 4: the words give no job.
-  pub usage : status ≡ 4 → HasUsage p t
-  -- 5: the files' count rose, nothing before the file of the last fault is refused, and the line names that file.
-  pub read_fault : status ≡ 5 → HasReadFault p t
-  -- 6: the count of `out` or of `err` rose, that one gained a proper prefix of what was due; the other is untouched.
-  -- In the first case the listeners were told the questions, in the second they are as they were.
-  pub write_fault : status ≡ 6 → HasWriteFault p t
-  -- 7: nothing was written. The listeners are as they were; or at some question of the job's output the telling broke
-  -- off: those in front of some place were told it, and the others the questions before it, and left or stayed.
-  pub memory : status ≡ 7 → HasNone p t
-  -- Where no count rose, the status is that of what is due, or memory ran out.
-  pub complete : IsComplete p t status
-  -- So too where no call of the files fails, and the sinks have room for all that is due.
-  pub assured : IsAssured p t status

@@ -1,8 +1,5 @@
 //! What a job gives.
-ghost use Rattle.std.specs.Prelude.{◌≡◌, []};
-
 use addr_bits::Bytes;
-use std::alloc::Global;
 use zone_answers::Questions;
 
 /// What a job gives.
@@ -12,17 +9,4 @@ pub struct Output {
     pub bytes: Bytes,
     /// The questions that the job asked of the zones, in order; none where it tells of none.
     pub asked: Questions,
-}
-
-impl Output {
-    /// These bytes, and no question to tell.
-    pub fn of(alloc: Global, bytes: Bytes) -> Output
-        ensures written { result.bytes ≡ bytes }
-        ensures untold { result.asked ≡ [] }
-    {
-        Output {
-            bytes,
-            asked: Questions::new(alloc),
-        }
-    }
 }

@@ -1,27 +1,27 @@
 -- The list of jobs: one line for each in each definition.
 use Rattle.std.specs.Prelude.{ℕ, List, [], ◌∷◌, ◌≡◌, codes}
 use Rattle.jobs.specs.Meaning.{Meaning, Program, program}
-use Rattle.jobs.specs.check.Meaning.{meaning_of_check}
-use Rattle.jobs.specs.check.Words.{SpellsCheck}
-use Rattle.jobs.specs.compare.Meaning.{meaning_of_compare}
-use Rattle.jobs.specs.compare.Words.{SpellsCompare}
-use Rattle.jobs.specs.compile.Meaning.{meaning_of_compile}
-use Rattle.jobs.specs.compile.Words.{SpellsCompile}
-use Rattle.jobs.specs.deps.Meaning.{meaning_of_deps}
-use Rattle.jobs.specs.deps.Words.{SpellsDeps}
-use Rattle.jobs.specs.join.Meaning.{meaning_of_join}
-use Rattle.jobs.specs.join.Words.{SpellsJoin}
-use Rattle.jobs.specs.keep.Meaning.{meaning_of_keep}
-use Rattle.jobs.specs.keep.Words.{SpellsKeep}
-use Rattle.jobs.specs.stale.Meaning.{meaning_of_stale}
-use Rattle.jobs.specs.stale.Words.{SpellsStale}
+use Rattle.job_check.specs.Meaning.{meaning_of_check}
+use Rattle.job_check.specs.Words.{SpellsCheck}
+use Rattle.job_compare.specs.Meaning.{meaning_of_compare}
+use Rattle.job_compare.specs.Words.{SpellsCompare}
+use Rattle.job_compile.specs.Meaning.{meaning_of_compile}
+use Rattle.job_compile.specs.Words.{SpellsCompile}
+use Rattle.job_deps.specs.Meaning.{meaning_of_deps}
+use Rattle.job_deps.specs.Words.{SpellsDeps}
+use Rattle.job_join.specs.Meaning.{meaning_of_join}
+use Rattle.job_join.specs.Words.{SpellsJoin}
+use Rattle.job_keep.specs.Meaning.{meaning_of_keep}
+use Rattle.job_keep.specs.Words.{SpellsKeep}
+use Rattle.job_stale.specs.Meaning.{meaning_of_stale}
+use Rattle.job_stale.specs.Words.{SpellsStale}
 use Rattle.spfc_top.specs.declared.any_job.AnyJob.{AnyJob}
 use Rattle.spfc_top.specs.declared.any_job.AnyJob.TheVariants.{Check, Compile, Deps, Verify, Trial, Compare, Join}
 use Rattle.spfc_top.specs.declared.any_job.AnyJob.TheVariants.{Keep, Stale}
-use Rattle.jobs.specs.verify.Meaning.{meaning_of_verify}
-use Rattle.jobs.specs.verify.Words.{SpellsVerify}
-use Rattle.jobs.specs.trial.Meaning.{meaning_of_trial}
-use Rattle.jobs.specs.trial.Words.{SpellsTrial}
+use Rattle.job_verify.specs.Meaning.{meaning_of_verify}
+use Rattle.job_verify.specs.Words.{SpellsVerify}
+use Rattle.job_trial.specs.Meaning.{meaning_of_trial}
+use Rattle.job_trial.specs.Words.{SpellsTrial}
 
 -- project's own choice: the command of a job
 abbrev pub command_of : AnyJob → List ℕ

@@ -4,18 +4,18 @@ use Rattle.std.proofs.Common.{ap, sym, ◌∙◌}
 use Rattle.std.proofs.lemmas.Bool.{false≢true}
 use Rattle.std.proofs.lemmas.Slice.Eq.{bytes_eq-Decides}
 use Rattle.jobs.specs.Meaning.{IsLawful}
-use Rattle.jobs.specs.check.Laws.{check_ready, one_check, check_lawful}
-use Rattle.jobs.specs.compare.Laws.{compare_ready, one_compare, compare_lawful}
-use Rattle.jobs.specs.compile.Laws.{compile_ready, one_compile, compile_lawful}
-use Rattle.jobs.specs.deps.Laws.{deps_ready, one_deps, deps_lawful}
-use Rattle.jobs.specs.join.Laws.{join_ready, one_join, join_lawful}
-use Rattle.jobs.specs.keep.Laws.{keep_ready, one_keep, keep_lawful}
-use Rattle.jobs.specs.stale.Laws.{stale_ready, one_stale, stale_lawful}
+use Rattle.job_check.specs.Laws.{check_ready, one_check, check_lawful}
+use Rattle.job_compare.specs.Laws.{compare_ready, one_compare, compare_lawful}
+use Rattle.job_compile.specs.Laws.{compile_ready, one_compile, compile_lawful}
+use Rattle.job_deps.specs.Laws.{deps_ready, one_deps, deps_lawful}
+use Rattle.job_join.specs.Laws.{join_ready, one_join, join_lawful}
+use Rattle.job_keep.specs.Laws.{keep_ready, one_keep, keep_lawful}
+use Rattle.job_stale.specs.Laws.{stale_ready, one_stale, stale_lawful}
 use Rattle.spfc_top.specs.declared.any_job.AnyJob.{AnyJob}
 use Rattle.spfc_top.specs.declared.any_job.AnyJob.TheVariants.{Check, Compile, Deps, Verify, Trial, Compare, Join}
 use Rattle.spfc_top.specs.declared.any_job.AnyJob.TheVariants.{Keep, Stale}
-use Rattle.jobs.specs.verify.Laws.{verify_ready, one_verify, verify_lawful}
-use Rattle.jobs.specs.trial.Laws.{trial_ready, one_trial_spelled, trial_lawful}
+use Rattle.job_verify.specs.Laws.{verify_ready, one_verify, verify_lawful}
+use Rattle.job_trial.specs.Laws.{trial_ready, one_trial_spelled, trial_lawful}
 use Rattle.spfc_top.specs.AnyJob.{command_of, SpellsBehind, SpellsAny, meaning_of}
 
 ready_behind : (words : List (List ℕ)) (job : AnyJob) → SpellsBehind words job → (meaning_of job).IsReady

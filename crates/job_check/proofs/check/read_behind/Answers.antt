@@ -1,0 +1,10 @@
+use Rattle.std.proofs.Common.{rules}
+use Rattle.job_check.proofs.check.read_behind.Goals as goal
+
+pub returns-in_default-read_limits : goal.returns-in_default-read_limits
+returns-in_default-read_limits c = record { spelled = tt; none = λ job is. c.in_default-read_limits.ensures job.limits is.reading }
+
+pub returns-then-not-branch : goal.returns-then-not-branch
+returns-then-not-branch c =
+    let none = rw c.behind_options.ensures at c.in_ok-push_zone_words.ensures.none in
+    record { spelled = tt; none = λ job is. none (search rules) job.inputs is.zones }

@@ -1,8 +1,0 @@
-use Rattle.std.proofs.Common.{◌∙◌, sym, String, string_bytes}
-use Rattle.std.specs.declared.alloc.Global.{Global}
-use Rattle.jobs.specs.join.Words.{is_other}
-use Rattle.jobs.proofs.JoinWords.{counted_none}
-use Rattle.jobs.proofs.join.domains.count_domains.Goals as goal
-
-pub returns-in-None-clause-value : goal.returns-in-None-clause-value
-returns-in-None-clause-value c = counted_none (λ (word : String Global). is_other (string_bytes word)) c.args.words.now (sym c.place_of_other.ensures.value ∙ c.in-None.is)

@@ -1,7 +1,0 @@
-use Rattle.std.proofs.Common.{take}
-use Rattle.jobs.specs.join.Verdicts.{KeepAll}
-use Rattle.jobs.proofs.join.verdicts.verdicts_of_all.Given as goal
-
--- the verdicts of the first domains
-abbrev pub invariant-loop-domain : goal.invariant-loop-domain
-invariant-loop-domain l = KeepAll l.limits l.zones (take l.domain-index l.domains) l.all
