@@ -3,7 +3,7 @@
 _spfc() {
     local word=${COMP_WORDS[COMP_CWORD]} before=${COMP_WORDS[COMP_CWORD - 1]} tool=${COMP_WORDS[0]##*/}
     local commands='compile check deps compare join keep stale verify trial' options=
-    local reading='--lookups --voids --exchanges'
+    local reading='--lookups --voids --exchanges' general='--require-ad --verbose --version --help'
     COMPREPLY=()
     case $before in
         --lookups | --voids | --exchanges | --size | --ttl | --label | --labels | --max-lost | --tries | --time | --jobs | -p)
@@ -17,10 +17,10 @@ _spfc() {
     esac
     case $tool in
         spfc-gather)
-            options="$reading --size --ttl --label -p -o --policy --holds --no-names --tries --time --jobs --help"
+            options="$reading --size --ttl --label -p -o --policy --holds --no-names --tries --time --jobs $general"
             ;;
         spfc-nightly)
-            options="$reading --size --ttl -p --labels --kept --max-lost --tries --time --jobs --help"
+            options="$reading --size --ttl -p --labels --kept --max-lost --tries --time --jobs $general"
             ;;
         spfc-explain)
             [ "$COMP_CWORD" = 1 ] && options=$commands

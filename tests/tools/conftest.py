@@ -1,5 +1,6 @@
 """What the tests of the tools share: options, name servers for a session, and a workplace for each test."""
 
+import itertools
 import os
 import shutil
 import sys
@@ -8,17 +9,17 @@ from pathlib import Path
 
 import pytest
 import servers
+from spfc_build.needs import NEEDS, Group
 from workplace import TOP, ZONES, Workplace
 
-NEEDS = {
-    "servers": ("named", "nsd"),
-    "package": ("dpkg-deb", "py3compile"),
-    "man": ("mandoc",),
+_NEEDS_OF_FIXTURES = {
+    "server": "servers",
+    "second_server": "servers",
+    "forwarder": "servers",
+    "nights": "servers",
+    "open_nights": "servers",
 }
-"""What tests need besides Python and the program: a name for --without, and the programs that must be installed."""
-_NEEDS_OF_FIXTURES = {"server": "servers", "second_server": "servers", "forwarder": "servers", "nights": "servers", "open_nights": "servers"}
-_OTHER_CHECKS = ("types", "format", "lint")
-"""What bin/test checks besides these tests, and --without may name too."""
+"""The groups of bin/test-tools that fixtures need."""
 
 
 def pytest_addoption(parser: pytest.Parser) -> None:
@@ -31,14 +32,13 @@ def pytest_addoption(parser: pytest.Parser) -> None:
         "--without",
         action="append",
         default=[],
-        choices=[*NEEDS, *_OTHER_CHECKS],
-        help="leave out the tests that need this; without this option they fail if it is not installed",
+        choices=list(Group),
+        help="leave out the tests of a group of bin/test-tools; else they fail if its packages are missing",
     )
 
 
 def pytest_configure(config: pytest.Config) -> None:
-    """Has the tests import the package of the checkout that is tried."""
-    config.addinivalue_line("markers", f"needs(name): the test needs this, one of {', '.join(NEEDS)}")
+    """Has the tests import the package of the checkout whose tools are tried."""
     sys.path.insert(0, str(config.getoption("tree").resolve() / "tools"))
 
 
@@ -50,20 +50,27 @@ def _needs(item: pytest.Item) -> set[str]:
 
 
 def pytest_collection_modifyitems(config: pytest.Config, items: list[pytest.Item]) -> None:
-    """Leaves out what --without names, and puts the tests that take longest first, so that no worker ends late."""
+    """Leaves out what --without names, and spreads the tests that take longest, so that no worker ends late."""
     without = set(config.getoption("without"))
     left_out = [item for item in items if _needs(item) & without]
     config.hook.pytest_deselected(items=left_out)
-    items[:] = [item for item in items if not _needs(item) & without]
-    items.sort(key=lambda item: item.get_closest_marker("slow") is None)
+    kept = [item for item in items if not _needs(item) & without]
+    slow = [item for item in kept if item.get_closest_marker("slow")]
+    items[:] = _spread(slow, [item for item in kept if not item.get_closest_marker("slow")])
+
+
+def _spread(slow: list[pytest.Item], quick: list[pytest.Item]) -> list[pytest.Item]:
+    """All tests, the slow ones evenly over the first quarter: pytest-xdist first gives each worker a part of this."""
+    gap = len(quick) // 4 // max(len(slow), 1)
+    chunks = ([item, *quick[number * gap : (number + 1) * gap]] for number, item in enumerate(slow))
+    return [*itertools.chain.from_iterable(chunks), *quick[len(slow) * gap :]]
 
 
 def pytest_runtest_setup(item: pytest.Item) -> None:
     """Fails a test if a program that it needs is missing."""
-    for name in sorted(_needs(item)):
-        for program in NEEDS[name]:
-            if not servers.has_tool(program):
-                pytest.fail(f"{program} is not installed; `--without {name}` leaves this test out", pytrace=False)
+    for need in NEEDS:
+        if need.group in _needs(item) and not servers.has_tool(need.probe):
+            pytest.fail(f"{need.package} is not installed; --without {need.group} leaves this test out", pytrace=False)
 
 
 @pytest.fixture(scope="session")

@@ -13,6 +13,7 @@ from pathlib import Path
 import pytest
 from spfc_build import building, crates, progress, schedule
 from spfc_build.crates import Crate
+from spfc_build.rooms import Room
 from spfc_build.schedule import Check, Machine
 
 TOP = Path(__file__).resolve().parents[2]
@@ -287,6 +288,16 @@ def test_build_that_is_broken_off_goes_on(tree: Tree, number: signal.Signals) ->
     assert not building.program_of(tree.top).exists()
     tree.build()
     assert [tree.kept(name) for name in ("low", "high", "spfc")] == [2, 2, 1]
+
+
+def test_copy_of_a_crate_that_is_gone(tree: Tree) -> None:
+    """What a killed build left of a crate that is not built any more is removed, and what was made of it is kept."""
+    for name in ("gone", "there"):
+        (Room(tree.top, name).crate / "out").mkdir(parents=True)
+    (tree.top / "crates/there").mkdir()
+    tree.build()
+    assert (tree.top / "crates/there/out").is_dir()
+    assert not (tree.top / "crates/gone").exists()
 
 
 def test_second_build_waits(tree: Tree) -> None:

@@ -103,25 +103,25 @@ def test_unknown_line_among_others(workplace: Workplace) -> None:
 @pytest.mark.parametrize(
     ("words", "said"),
     [
-        ("check example.com 192.0.2.999 .=z", "This is no ADDRESS: 192.0.2.999"),
+        ("check example.com 192.0.2.999 .=z", "ADDRESS is not valid: 192.0.2.999"),
         ("check example.com .=z", "A word is missing: ADDRESS comes before .=z."),
-        ("check Example.com. 192.0.2.1 .=z", "This is no DOMAIN: Example.com. (perhaps example.com)"),
-        ("compile example.com z", "This is no ORIGIN=FILE: z (perhaps .=z, for a file that spfc-gather wrote)"),
-        ("compile example.com .=", "This is no ORIGIN=FILE: .="),
+        ("check Example.com. 192.0.2.1 .=z", "DOMAIN is not valid: Example.com. (perhaps example.com)"),
+        ("compile example.com z", "Expected ORIGIN=FILE, got z (perhaps .=z, for a file that spfc-gather wrote)"),
+        ("compile example.com .=", "Expected ORIGIN=FILE, got .="),
         ("compile example.com", "No zone is named: a word ORIGIN=FILE is missing, such as .=gathered."),
         ("compile example.com .=z --size 450", "This option comes after a zone word, and has to come before all of"),
         ("compile example.com --size 63 .=z", "The option --size does not take 63: it takes 64 to 4,096"),
         ("compile example.com --label x .=z", "The option --label does not take x: it takes _ and up to 60"),
         ("compile example.com --size 64 --size 65 .=z", "This option is written twice: --size."),
         ("check example.com 192.0.2.1 --size 64 .=z", "The command check has no option --size."),
-        ("compile example.com --sise 64 .=z", "There is no option --sise."),
+        ("compile example.com --sise 64 .=z", "This option is unknown: --sise."),
         ("compile example.com .=z .=z", "Two zone words have one origin: .=z"),
-        ("compile example..com .=z", "This is no DOMAIN: example..com"),
+        ("compile example..com .=z", "DOMAIN is not valid: example..com"),
         ("compare a.test b.test .=z with", "No zone is named: a word ORIGIN=FILE is missing"),
         ("join a.test b.test a.test .=z", "This domain is named twice: a.test."),
-        ("join a.test b..test .=z", "This is no DOMAIN: b..test"),
+        ("join a.test b..test .=z", "DOMAIN is not valid: b..test"),
         ("join a.test .=z", "A word is missing: DOMAIN"),
-        ("trial 0 10001", "This is no N: 10001"),
+        ("trial 0 10001", "N is not valid: 10001"),
         ("trial 0 1 .=z", "The command trial reads no zones: .=z."),
         ("compile .=z", "A word is missing: DOMAIN comes before .=z."),
     ],
@@ -141,7 +141,7 @@ def test_good_words_are_good(command: str, workplace: Workplace) -> None:
     words = [places[place.removesuffix("..")] for place in COMMANDS[command].places]
     words = [words[0], "example.net"] if command == "join" else words
     ended = workplace.tool("spfc-explain", command, *words, *([] if command == "trial" else [".=/dev/null"]))
-    assert "This is no " not in ended.output.partition("What helps")[0]
+    assert "usage" not in ended.output.splitlines()
 
 
 # ------------------------------------------------------------- texts that nearly are records

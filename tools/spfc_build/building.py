@@ -17,7 +17,7 @@ from typing import IO, NoReturn
 from . import crates as crates_of
 from .crates import Crate
 from .progress import Progress
-from .rooms import Room, alone
+from .rooms import Room, alone, leave_all
 from .schedule import Check, Machine, next_checks, ways_up
 
 _PAUSE = 0.05
@@ -174,6 +174,7 @@ def _build(top: Path, crates: Mapping[str, Crate]) -> None:
     begun = time.time()
     say("building the program: each crate is proved, which takes long the first time")
     program = program_of(top)
+    leave_all(top)
     for made in (program, second_program_of(top)):
         made.unlink(missing_ok=True)
     _prove(top, crates)

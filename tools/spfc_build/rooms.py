@@ -28,6 +28,12 @@ def _link(source: str, target: str) -> str:
     return target
 
 
+def _rooms(top: Path) -> Path:
+    """The folder of the copies."""
+    git = top / ".git"
+    return (git if git.is_dir() else top / _MADE) / "spfc-build"
+
+
 @dataclass(frozen=True)
 class Room:
     """The copy of the tree in which a crate is proved."""
@@ -38,8 +44,7 @@ class Room:
     @property
     def folder(self) -> Path:
         """Where the copy is."""
-        git = self.top / ".git"
-        return (git if git.is_dir() else self.top / _MADE) / "spfc-build" / self.name
+        return _rooms(self.top) / self.name
 
     @property
     def crate(self) -> Path:
@@ -48,7 +53,6 @@ class Room:
 
     def make(self, crates: Mapping[str, Crate]) -> None:
         """Copies the crate and those below it, which are built."""
-        self.leave()
         names = [*below(crates, self.name), self.name]
         for name in names:
             for part in PARTS:
@@ -66,11 +70,18 @@ class Room:
             made.rename(self.crate / _MADE)
 
     def leave(self) -> None:
-        """Moves what was made of the crate back, also what a build left that was killed, and removes the copy."""
+        """Moves what was made of the crate back, and removes the copy."""
         made, place = self.crate / _MADE, self.top / "crates" / self.name / _MADE
-        if made.is_dir() and not place.exists():
+        if made.is_dir() and place.parent.is_dir() and not place.exists():
             made.rename(place)
         shutil.rmtree(self.folder, ignore_errors=True)
+
+
+def leave_all(top: Path) -> None:
+    """Leaves each copy that a build has left behind which was killed."""
+    if _rooms(top).is_dir():
+        for folder in _rooms(top).iterdir():
+            Room(top, folder.name).leave()
 
 
 @contextmanager

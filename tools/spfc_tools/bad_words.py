@@ -30,7 +30,7 @@ def _all(program: Program, words: Words) -> Iterator[list[str]]:
 
 def _is_taken(program: Program, command: str, places: Sequence[str], *options: str, zone: str = _ZONE) -> bool:
     """Whether spfc takes these words, with a zone if the command has any."""
-    zones = [zone] if COMMANDS[command].behind else []
+    zones = [zone] if COMMANDS[command].zones else []
     return program.run([command, *places, *options, *zones]).status != USAGE
 
 
@@ -52,7 +52,7 @@ def _places(program: Program, words: Words) -> list[str]:
         if "=" in word or word in OPTIONS:
             return [f"A word is missing: {name} comes before {word}."]
         if not _is_taken(program, words.command, _places_with(words.command, place, word)):
-            return [f"This is no {name}: {word}{_of_place(name, word)}"]
+            return [f"{name} is not valid: {word}{_of_place(name, word)}"]
     if len(words.places) < len(names):
         return [f"A word is missing: {names[len(words.places)].removesuffix(MORE)}."]
     return _joined(words) if words.command == "join" else []
@@ -98,7 +98,7 @@ def _options(program: Program, words: Words) -> list[str]:
 
 
 def _zones(program: Program, words: Words) -> list[str]:
-    if not COMMANDS[words.command].behind:
+    if not COMMANDS[words.command].zones:
         return [f"The command {words.command} reads no zones: {words.zones[0]}."] if words.zones else []
     origins: set[str] = set()
     for word in words.zones:
@@ -108,11 +108,11 @@ def _zones(program: Program, words: Words) -> list[str]:
         elif word in OPTIONS:
             return [f"This option comes after a zone word, and has to come before all of them: {word}."]
         elif word.startswith("-"):
-            return [f"There is no option {word}."]
+            return [f"This option is unknown: {word}."]
         elif not equals:
-            return [f"This is no ORIGIN=FILE: {word} (perhaps .={word}, for a file that spfc-gather wrote)"]
+            return [f"Expected ORIGIN=FILE, got {word} (perhaps .={word}, for a file that spfc-gather wrote)"]
         elif not file or not _is_taken(program, words.command, _right(words.command), zone=f"{origin}=/dev/null"):
-            return [f"This is no ORIGIN=FILE: {word}"]
+            return [f"Expected ORIGIN=FILE, got {word}"]
         elif origin.removesuffix(".").lower() in origins:
             return [f"Two zone words have one origin: {word}"]
         else:

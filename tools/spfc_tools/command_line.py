@@ -23,7 +23,7 @@ _STOPPED = 128
 """Added to the number of a signal that ends a tool."""
 _MOST_NUMBER = 99_999
 _WITH_PORT = re.compile(r"([^:]+|\[[^]]+\])[:#](\d+)")
-"""A server with a port, which has an option of its own."""
+"""A server with a port, which has an option for itself."""
 CHAIN = ("--size", "--ttl", "--label")
 """The options of spfc that decide how the records of a chain are cut and named."""
 
@@ -89,7 +89,7 @@ def _server_or_zone(text: str) -> str:
 
 
 def _domain_server_or_zone(text: str) -> str:
-    """The word of a domain, or one of the others."""
+    """A domain, `@SERVER` or `ORIGIN=FILE`."""
     return _server_or_zone(text) if text.startswith("@") or "=" in text else domain(text)
 
 
@@ -130,6 +130,8 @@ def add_server_options(parser: Parser) -> None:
     ):
         text = f"{purpose}, by default {default}"
         group.add_argument(*flags, dest=name, metavar=metavar, type=positive, default=default, help=text)
+    validated = "take only replies that the server has validated by DNSSEC (AD bit)"
+    group.add_argument("--require-ad", action="store_true", help=validated)
     log = "log each question and its reply to standard error"
     group.add_argument("-v", "--verbose", action="store_true", help=log)
 
@@ -155,7 +157,7 @@ def number(arguments: argparse.Namespace, name: str) -> int:
 
 
 def parse(parser: Parser, words: Sequence[str]) -> argparse.Namespace:
-    """The options and words, with the server as `server`, the zone words as `beside`, and other words as `domains`.
+    """The options and words, with the server as `server`, the zone words as `zones`, and other words as `domains`.
 
     Starts the log.
     """
@@ -166,7 +168,7 @@ def parse(parser: Parser, words: Sequence[str]) -> argparse.Namespace:
     arguments.server = servers[0][1:] if servers else None
     if found := _WITH_PORT.fullmatch(arguments.server or ""):
         parser.error(f"expected @SERVER, got @{arguments.server}: give the port by -p {found[2]}")
-    arguments.beside = tuple(word for word in arguments.servers_and_zones if "=" in word)
+    arguments.zones = tuple(word for word in arguments.servers_and_zones if "=" in word)
     others = (word for word in arguments.servers_and_zones if not word.startswith("@") and "=" not in word)
     arguments.domains = tuple(dict.fromkeys(others))
     if arguments.verbose:
@@ -177,7 +179,8 @@ def parse(parser: Parser, words: Sequence[str]) -> argparse.Namespace:
 def resolver(arguments: argparse.Namespace) -> Resolver:
     """The servers to ask, and how."""
     how = (arguments.port, arguments.tries, float(arguments.time), arguments.jobs)
-    return Resolver(addresses(arguments.server), *how, are_named=arguments.server is not None)
+    are_named = arguments.server is not None
+    return Resolver(addresses(arguments.server), *how, are_named=are_named, is_validated=arguments.require_ad)
 
 
 # ------------------------------------------------------------- words for spfc
@@ -208,9 +211,9 @@ def judge_zones(program: Program, of_domain: str, reading: Sequence[str], zones:
         raise Ending(Status.TOOL, ended.line)
 
 
-def warn(tool: str, program: Program, of_domain: str, reading: Sequence[str], beside: Sequence[str], zone: str) -> None:
-    """Writes to standard error what a policy lacks over a zone of the root and the zones beside it."""
-    zones = program.zones_of(zone, beside)
+def warn(tool: str, program: Program, of_domain: str, reading: Sequence[str], others: Sequence[str], zone: str) -> None:
+    """Writes to standard error what a policy lacks over a zone of the root and other zones."""
+    zones = program.zones_of(zone, others)
 
     def run_program(words: Sequence[str]) -> tuple[int, str]:
         ended = program.run(words)

@@ -125,7 +125,7 @@ def explain_run(program: Program, given: list[str]) -> int:
 
 
 def _last_line(given: Sequence[str], ended: Run) -> str:
-    """The line of the refusal, behind what listeners were told, or the one line that `check` or `stale` printed."""
+    """The line of the refusal, after the lines of --trace, or the one line that `check` or `stale` printed."""
     if ended.status:
         return ended.line.rpartition("\n")[2]
     return ended.output.rstrip("\n") if given[0] in ("check", "stale") else ""

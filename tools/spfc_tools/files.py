@@ -13,7 +13,7 @@ _MODE = 0o666
 def write(path: Path, text: str) -> None:
     """Writes a file next to its place, and then renames it. A link stays one: the file that it leads to is replaced.
 
-    What is no plain file, such as a device or a fifo, is written to as it is.
+    A device or a fifo is written to as it is.
     """
     try:
         if _is_special(path):
@@ -44,16 +44,16 @@ def _is_special(path: Path) -> bool:
 
 
 def _replace(path: Path, text: str) -> None:
-    descriptor, beside = tempfile.mkstemp(prefix=f".{path.name}.", dir=path.parent)
+    descriptor, temporary = tempfile.mkstemp(prefix=f".{path.name}.", dir=path.parent)
     try:
         with open(descriptor, "w", encoding="latin-1") as file:
             file.write(text)
             file.flush()
             os.fsync(file.fileno())
-        os.chmod(beside, _MODE & ~_mask())
-        os.replace(beside, path)
+        os.chmod(temporary, _MODE & ~_mask())
+        os.replace(temporary, path)
     except BaseException:
-        os.unlink(beside)
+        os.unlink(temporary)
         raise
 
 

@@ -55,19 +55,19 @@ def _judge(program: Program, arguments: argparse.Namespace, reading: Sequence[st
     """Has the program say whether it takes the words."""
     for domain in arguments.domains:
         if arguments.no_names:
-            command_line.judge_check(program, domain, [*reading, *arguments.beside])
+            command_line.judge_check(program, domain, [*reading, *arguments.zones])
         else:
             options = [*reading, *command_line.spfc_options(arguments, CHAIN)]
-            command_line.judge(program, ["compile", domain, *options, *arguments.beside])
+            command_line.judge(program, ["compile", domain, *options, *arguments.zones])
     first = arguments.domains[0]
     if not program.knows("deps", first, *reading):
         raise Ending(GatherStatus.TOOL, f"{program.path} has no command deps")
-    command_line.judge_zones(program, first, reading, arguments.beside)
+    command_line.judge_zones(program, first, reading, arguments.zones)
 
 
 def _request(program: Program, arguments: argparse.Namespace) -> Request:
     reading = command_line.spfc_options(arguments, READING)
-    command_line.judge_files(arguments.output, (arguments.policy, arguments.holds), arguments.beside)
+    command_line.judge_files(arguments.output, (arguments.policy, arguments.holds), arguments.zones)
     _judge(program, arguments, reading)
     return Request(
         domains=arguments.domains,
@@ -75,7 +75,7 @@ def _request(program: Program, arguments: argparse.Namespace) -> Request:
         exchanges=command_line.number(arguments, "--exchanges"),
         label=None if arguments.no_names else (arguments.label or _LABEL).lower(),
         policy=read_policy(arguments.policy, program) if arguments.policy else None,
-        beside=arguments.beside,
+        zones=arguments.zones,
     )
 
 
@@ -105,7 +105,7 @@ def _run(words: Sequence[str]) -> int:
             return GatherStatus.DONE
         text = gather(request, program, arguments)
         for domain in request.domains:
-            command_line.warn(TOOL, program, domain, request.reading, request.beside, text)
+            command_line.warn(TOOL, program, domain, request.reading, request.zones, text)
     if arguments.output:
         files.write(arguments.output, text)
     else:
@@ -140,7 +140,7 @@ def not_asked(request: Request, path: Path, program: Program) -> list[str]:
     except OSError as error:
         raise Ending(GatherStatus.TOOL, f"{path}: {error.strerror}") from error
     lines = set(zone.splitlines())
-    by_domain = (program.questions(domain, request.reading, zone, request.beside) for domain in request.domains)
+    by_domain = (program.questions(domain, request.reading, zone, request.zones) for domain in request.domains)
     asked = dict.fromkeys(itertools.chain.from_iterable(by_domain))
     missing = [f"not asked: {question}" for question in asked if _ASKED + question not in lines]
     for domain in request.domains:
@@ -159,8 +159,8 @@ def _are_names_asked(label: str, domain: str, lines: Collection[str]) -> bool:
 
 def _head(request: Request) -> Iterator[str]:
     yield _policy_line(request.domains)
-    if request.beside:
-        yield f"; To be read beside zones of {' '.join(word.partition('=')[0] for word in request.beside)}"
+    if request.zones:
+        yield f"; To be read beside zones of {' '.join(word.partition('=')[0] for word in request.zones)}"
     if request.reading:
         yield f"; Reading options: {' '.join(request.reading)}"
     if request.policy is not None:

@@ -1,4 +1,4 @@
-"""Asks DNS until every question on which a policy rests is answered."""
+"""Asks DNS until every question that a policy asks is answered."""
 
 import itertools
 from collections.abc import Iterable, Iterator
@@ -13,7 +13,7 @@ from spfc_tools.facts import Alias, Answer, Chain, Data, Facts, Kind, Question, 
 from spfc_tools.program import Asker, Program
 from spfc_tools.progress import Progress
 from spfc_tools.resolving import NO_REPLY, Resolver
-from spfc_tools.sender_lists import Lists, targets_beside
+from spfc_tools.sender_lists import Lists, targets_in_files
 from spfc_tools.texts import presented, why_no_policy
 from spfc_tools.transfers import Transfers
 from spfc_tools.world import World
@@ -44,14 +44,14 @@ _MOST_ROUNDS = 1_000
 _MOST_QUESTIONS = 20_000
 _PROBE = b"_spfc"
 NEEDED_NAMES = 10
-"""As many names a chain may have behind the domain."""
+"""The number of names that a chain may have after the domain."""
 
 
 @dataclass(frozen=True)
 class Request:
     """What is gathered: the policies of domains under some reading options, and whether their chains' names are free.
 
-    A `policy` is read in place of the record of the one domain. The zone words `beside` name zones that are read
+    A `policy` is read in place of the record of the one domain. The `zones` name zones that are read
     together with the file, and of which DNS is asked nothing.
     """
 
@@ -60,7 +60,7 @@ class Request:
     exchanges: int = 10
     label: str | None = None
     policy: str | None = None
-    beside: tuple[str, ...] = ()
+    zones: tuple[str, ...] = ()
 
     @property
     def names(self) -> list[Name]:
@@ -74,11 +74,11 @@ class Request:
             return []
         places = itertools.product(self.domains, range(1, NEEDED_NAMES + 1))
         needed = (names.read(f"{self.label}{number}.{domain}") for domain, number in places)
-        return [name for name in needed if not self.is_beside(name)]
+        return [name for name in needed if not self.is_in_a_file(name)]
 
-    def is_beside(self, name: Name) -> bool:
-        """Whether the name is at or below the origin of a zone that is read beside the file."""
-        return any(name.is_subdomain(names.read(word.partition("=")[0])) for word in self.beside)
+    def is_in_a_file(self, name: Name) -> bool:
+        """Whether the name is at or below the origin of a zone that comes from a file."""
+        return any(name.is_subdomain(names.read(word.partition("=")[0])) for word in self.zones)
 
 
 @dataclass(frozen=True)
@@ -101,7 +101,7 @@ class Gathering:
         self._request = request
         self._program = program
         self._resolver = resolver
-        self._lists = Lists(Transfers(resolver), request.is_beside)
+        self._lists = Lists(Transfers(resolver), request.is_in_a_file)
         self._progress = progress
         self._facts = Facts()
         self._policy_answer: Answer | None = None
@@ -110,7 +110,7 @@ class Gathering:
 
     def gather(self) -> Gathered:
         """The world of what spfc asks over it, or the end where one of these questions has no answer."""
-        questions = [text for text in self._texts if not self._request.is_beside(text.name)]
+        questions = [text for text in self._texts if not self._request.is_in_a_file(text.name)]
         for number in range(1, _MOST_ROUNDS + 1):
             self._ask_missing(questions, f"round {number}")
             asked = self._asked(self._world([*questions, *self._expected(questions)]), number)
@@ -144,20 +144,20 @@ class Gathering:
         """What spfc asks over a world."""
         self._progress.tell(f"round {number}: what is asked")
         request, zone = self._request, world.zone()
-        asked_by = (self._program.questions(one, request.reading, zone, request.beside) for one in request.domains)
+        asked_by = (self._program.questions(one, request.reading, zone, request.zones) for one in request.domains)
         lines = list(dict.fromkeys(itertools.chain.from_iterable(asked_by)))
-        asker = Asker(self._program, request.reading, self._program.zones(request.beside))
+        asker = Asker(self._program, request.reading, self._program.zones(request.zones))
         reversed_lines = [line for line in lines if read_question(line).kind.is_reversed]
         lines += [line for line in self._lines_of_lists(reversed_lines) if line not in lines]
-        asked = read_questions(line for line in lines if not self._is_answered_beside(line, asker))
+        asked = read_questions(line for line in lines if not self._is_answered_by_a_file(line, asker))
         if len(asked) > _MOST_QUESTIONS:
             raise Ending(Status.CONTRADICTION, f"more than {_MOST_QUESTIONS} questions")
         return asked
 
-    def _is_answered_beside(self, line: str, asker: Asker) -> bool:
-        """Whether a question of `deps` is answered by the zones beside the file, and never led out of them."""
+    def _is_answered_by_a_file(self, line: str, asker: Asker) -> bool:
+        """Whether the zones from files answer a question of `deps`, and it never led out of them."""
         question = read_question(line)
-        if not self._request.is_beside(question.name):
+        if not self._request.is_in_a_file(question.name):
             return False
         if question.kind.is_reversed:
             return True
@@ -166,9 +166,9 @@ class Gathering:
         return line not in self._leading_out
 
     def _lines_of_lists(self, lines: list[str]) -> Iterator[str]:
-        """The questions to which lists of addresses lead in the zones beside the file."""
+        """The questions to which lists of addresses lead in the zones from files."""
         for line in lines:
-            targets = targets_beside(self._request.beside, read_question(line))
+            targets = targets_in_files(self._request.zones, read_question(line))
             yield from sorted({str(Question(target, Kind.A)) for target in targets})
 
     def _ask_missing(self, questions: list[Question], place: str) -> None:

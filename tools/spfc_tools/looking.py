@@ -46,7 +46,7 @@ def look_stale(program: Program, path: Path, question: str, zones: Sequence[str]
 
 
 def look_bad(path: Path, number: int) -> Iterator[str]:
-    """What stands on a line of the list, and what is to stand there."""
+    """What a line of the list has, and what it should have."""
     lines = path.read_text(encoding="latin-1").split("\n")
     yield f"{number:5}: {lines[number - 1][:_SHOWN]}"
     if number == 1:
@@ -149,7 +149,7 @@ class Looker:
         yield f"For {address} it takes more than {limits.most}."
 
     def _misspelled(self, name: str) -> Iterator[str]:
-        """The terms that break the grammar, each alone or behind those before it."""
+        """The terms that break the grammar, each alone or after those before it."""
         for text in self._texts(name):
             terms = text.split(" ")[1:]
             alone = [term for term in terms if term and self._asker.is_misspelled(f"v=spf1 {term}")]
@@ -223,7 +223,7 @@ class Looker:
 
 
 def wrong_words(program: Program, given: list[str]) -> Iterator[str]:
-    """The words without which, or without which and the next, the others give a job."""
+    """The words that, taken out alone or with the next one, leave words that spfc takes."""
     for at in range(1, len(given)):
         for length in (1, 2):
             rest = given[:at] + given[at + length :]

@@ -1,4 +1,10 @@
-"""Asks name servers."""
+"""Asks name servers.
+
+dnspython sends each query with a random id from a fresh socket, whose port the system chooses. It passes over datagrams
+from other addresses and ports, and reads no reply with another id or question. So an attacker who cannot see the query
+has to guess its id and port. This does not help against a server that lies, or an attacker who can see or change the
+queries: for that, ask a resolver of your own that validates DNSSEC, and take only what it validated (`is_validated`).
+"""
 
 import logging
 import socket
@@ -9,6 +15,7 @@ from dataclasses import dataclass, field
 from threading import Event
 
 import dns.exception
+import dns.flags
 import dns.message
 import dns.query
 import dns.rcode
@@ -25,6 +32,8 @@ _PAUSE = 1.0
 _PAYLOAD = 1232
 """Octets of a reply over UDP that is not cut on its way; a longer one comes over TCP."""
 
+NOT_VALIDATED = "not validated by the resolver (no AD bit)"
+"""Why a reply does not count that has no AD bit (RFC 4035, section 3.2.3)."""
 NO_REPLY = "no reply"
 """Why a question failed that no server replied to."""
 
@@ -54,6 +63,8 @@ class Resolver:
     at_once: int = 8
     are_named: bool = False
     """Whether a person named them. Else they are the resolvers of this machine."""
+    is_validated: bool = False
+    """Whether only those replies count that the server has validated by DNSSEC, as their AD bit says."""
     _stopped: Event = field(default_factory=Event)
 
     def ask_all(self, questions: Iterable[Question], tell: Callable[[int, Question], None]) -> Learned:
@@ -124,12 +135,15 @@ class Resolver:
 
     def _asked(self, name: Name, kind: str, server: str) -> dns.message.Message | Failure:
         query = dns.message.make_query(name, kind, use_edns=0, payload=_PAYLOAD)
+        query.flags |= dns.flags.AD if self.is_validated else 0
         try:
-            return dns.query.udp_with_fallback(query, server, self.seconds, self.port, ignore_unexpected=True)[0]
+            reply = dns.query.udp_with_fallback(query, server, self.seconds, self.port, ignore_unexpected=True)[0]
         except (dns.exception.Timeout, OSError, EOFError):
             return Failure(NO_REPLY)
         except dns.exception.DNSException:
             return Failure("malformed reply")
+        is_doubted = self.is_validated and reply.rcode() in ANSWERED and not reply.flags & dns.flags.AD
+        return Failure(NOT_VALIDATED) if is_doubted else reply
 
 
 def _in_words(reply: dns.message.Message) -> str:

@@ -131,7 +131,7 @@ _PLACES = {
     "REASON": r"No such file or directory|Is a directory|Not a directory|Permission denied|Input/output error",
 }
 _FORMS = {"mx", "SPF", "TXT", "DNS"}
-"""Words in capitals that are no places."""
+"""Words in capitals that do not stand for others."""
 
 
 @dataclass(frozen=True)

@@ -1,5 +1,6 @@
 """Whole zones, from a transfer (RFC 5936) or from a file."""
 
+import itertools
 import logging
 import time
 from collections.abc import Iterable, Mapping
@@ -21,7 +22,17 @@ from spfc_tools import names
 from spfc_tools.exit_statuses import Ending, Status
 from spfc_tools.facts import Alias, Data, Failure, Void
 from spfc_tools.replies import has_alias
-from spfc_tools.resolving import Resolver
+from spfc_tools.resolving import NO_REPLY, Resolver
+
+_LOG = logging.getLogger(__name__)
+_PORT = 53
+_PATIENCE = 60
+"""A transfer as a whole may take this many times the seconds of a reply."""
+_MOST_RECORDS = 200_000
+"""The records that a transfer may have. spfc reads at most 65,536 different ones of all zones."""
+_TOO_LARGE = f"more than {_MOST_RECORDS} records"
+_FINAL = ("REFUSED", "NOTAUTH", "NOTIMP", _TOO_LARGE)
+"""Why a server is not asked again."""
 
 
 @dataclass(frozen=True)
@@ -68,12 +79,24 @@ def _has(node: Node, kind: str) -> bool:
     return node.get_rdataset(dns.rdataclass.IN, dns.rdatatype.from_text(kind)) is not None
 
 
-_LOG = logging.getLogger(__name__)
-_PORT = 53
-_PATIENCE = 60
-"""As many times the seconds of a reply a transfer may take as a whole."""
-_FINAL = ("REFUSED", "NOTAUTH", "NOTIMP")
-"""Replies of servers that need not be asked anew."""
+class _BoundedZone(dns.zone.Zone):
+    """A zone that a transfer fills with so many records at most that they fit into memory."""
+
+    def writer(self, replacement: bool = False) -> dns.zone.Transaction:
+        """The transaction of a transfer, which counts the records."""
+        transaction = super().writer(replacement)
+        count = itertools.count(1)
+
+        def check(*_: object) -> None:
+            if next(count) > _MOST_RECORDS:
+                raise _TooLargeError
+
+        transaction.check_put_rdataset(check)
+        return transaction
+
+
+class _TooLargeError(Exception):
+    """A zone has more records than a transfer may have."""
 
 
 class NotGiven(Exception):
@@ -124,6 +147,8 @@ class Transfers:
 
     def _transferred(self, origin: Name) -> Contents | NotGiven:
         """Asks each server, and those anew that did not refuse."""
+        if self._resolver.is_validated:
+            return NotGiven(origin, f"no transfer of {names.printed(origin)}: DNSSEC does not cover a transfer")
         why = "no name server of it is known"
         servers = list(self._servers(origin))
         for _ in range(self._resolver.tries):
@@ -143,14 +168,16 @@ class Transfers:
 
     def _transfer(self, origin: Name, server: str) -> Contents | Failure:
         """What one server gives away, or why it does not."""
-        zone = dns.zone.Zone(origin, relativize=False)
+        zone = _BoundedZone(origin, relativize=False)
         seconds = self._resolver.seconds
         try:
             dns.query.inbound_xfr(server, zone, port=self._port, timeout=seconds, lifetime=seconds * _PATIENCE)
         except dns.xfr.TransferError as error:
             return Failure(dns.rcode.to_text(error.rcode))
+        except _TooLargeError:
+            return Failure(_TOO_LARGE)
         except (dns.exception.Timeout, OSError, EOFError):
-            return Failure("no reply")
+            return Failure(NO_REPLY)
         except dns.exception.DNSException:
             return Failure("malformed reply")
         return contents(zone, origin)

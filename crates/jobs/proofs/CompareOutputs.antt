@@ -27,12 +27,12 @@ pub first_fault : (job : Compare) (loaded : Loaded) (fault : VerdictFault)
 first_fault job loaded (Refused address outcome) is = one_refused address outcome is refl
 first_fault job loaded Memory is = tt
 
-pub second_fault : (job : Compare) (loaded : Loaded) (v4 v6 : List (Cidr × Verdict)) (fault : VerdictFault)
-    → KeepVerdicts job.limits loaded.zones job.one.text v4 v6
+pub second_fault : (job : Compare) (loaded : Loaded) (v4 v6 : List (Cidr × Verdict))
+    → KeepVerdicts job.limits loaded.zones job.one.text v4 v6 → (fault : VerdictFault)
     → IsPolicyFault job.limits (second_zones job loaded) job.two.text fault → IsDueFault job loaded fault
-second_fault job loaded v4 v6 (Refused address outcome) one is =
+second_fault job loaded v4 v6 one (Refused address outcome) is =
     two_refused (verdict_at (trie_verdict 32 v4) (trie_verdict 128 v6)) address outcome one is refl
-second_fault job loaded v4 v6 Memory one is = tt
+second_fault job loaded v4 v6 one Memory is = tt
 
 pub compared_output : (job : Compare) (loaded : Loaded) (v4 v6 w4 w6 : List (Cidr × Verdict)) (changes : List Change)
     (output : Output) → KeepVerdicts job.limits loaded.zones job.one.text v4 v6

@@ -1,4 +1,4 @@
-//! What a job is, the one way from the words to an answer, for whatever jobs, and the jobs of the program, a folder each.
+//! What a job is, the one way from the words to an answer, and the jobs of the program, a folder each.
 #![tactic(auto)]
 
 mod answering;

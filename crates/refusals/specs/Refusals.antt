@@ -11,7 +11,8 @@ use Rattle.refusals.specs.Lines.{no_records_line}
 use Rattle.refusals.specs.declared.refusal.Denial.{Denial}
 use Rattle.refusals.specs.declared.refusal.Denial.TheVariants as denial
 use Rattle.refusals.specs.declared.refusal.Refusal.{Refusal}
-use Rattle.refusals.specs.declared.refusal.Refusal.TheVariants.{NoFile, LongFile, BadZone, TooManyRecords, AliasAndOther}
+use Rattle.refusals.specs.declared.refusal.Refusal.TheVariants.{NoFile, LongFile, BadZone, TooManyRecords}
+use Rattle.refusals.specs.declared.refusal.Refusal.TheVariants.{AliasAndOther}
 use Rattle.refusals.specs.declared.refusal.Refusal.TheVariants.{NoVerdict, Alias, Taken, TooBig, BadList, Denied}
 
 -- 1: what was asked is refused; 2: it is too big; 3: the zones or the list cannot be read; 8: the file does not show
