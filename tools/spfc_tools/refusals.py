@@ -20,33 +20,35 @@ class Entry:
 
 _NO_LIST = 'such a policy has no list of networks: take the term out, or see "A policy with macros"'
 _COPY = (
-    "give a gathered file, or a copy with only the names that the policy asks for and what they answer, the TXT "
-    "records of the domain, and what stands at or below the names of the chain"
+    "give a gathered file, or a copy with only the names that the policy asks for and their answers, the TXT records "
+    "of the domain, and everything at or below the names of the chain"
 )
 
 CAUSES: Mapping[str, Entry] = {
     "norecord": Entry("the domain has no SPF record", "write one, or compile another domain"),
     "outside": Entry(
-        "an answer lies outside the zones that were read, or below a delegation: with TERM 0 that for NAME, with "
+        "an answer is outside the zones that were read, or below a delegation: with TERM 0 the answer for NAME, with "
         'another TERM one that this term asks for (see "Gather")',
-        "read that zone too; over a gathered file, gather with the options with which you compile",
+        "read that zone too; if you use a gathered file, gather with the options that you compile with",
     ),
     "lookups": Entry(
         "the term is one lookup too many",
-        "fewer includes; or `--lookups` up to 20, to read what receivers no longer follow; above 20 see "
+        "use fewer includes; or `--lookups` up to 20, to read what receivers no longer follow; above 20 see "
         '"Over 20 lookups"',
     ),
-    "voids": Entry("the term got one void answer too many", "take out names that no longer exist; or `--voids`"),
+    "voids": Entry(
+        "the term got one void answer too many", "take out names that no longer exist; or read with `--voids`"
+    ),
     "exchanges": Entry("an `mx` term has too many exchanges", "`--exchanges`, or networks in place of `mx`"),
-    "syntax": Entry("the record breaks the grammar", "mend it; receivers give a permanent error"),
+    "syntax": Entry("the record breaks the grammar", "correct it; receivers give a permanent error"),
     "records": Entry("the name has more than one SPF record", "leave one"),
     "missing": Entry(
-        "an included or redirected name is no legal name, or has no SPF record",
-        "take the term out, receivers give a permanent error; where the zones were written by hand, see that the file "
-        "has the name",
+        "an included or redirected name is not a legal name, or has no SPF record",
+        "take the term out, receivers give a permanent error; if you wrote the zones by hand, check that the file has "
+        "the name",
     ),
-    "alias": Entry("aliases lead on after 8 steps, or round", "mend the aliases"),
-    "target": Entry("what `a`, `mx` or `exists` asks for is no legal name", "mend the term"),
+    "alias": Entry("aliases go on after 8 steps, or in a circle", "correct the aliases"),
+    "target": Entry("the name that `a`, `mx` or `exists` asks for is not a legal name", "correct the term"),
     "sender": Entry(
         "the term needs the sender's address (`%{s}`, `%{l}`, `%{o}`)",
         _NO_LIST,
@@ -56,8 +58,8 @@ CAUSES: Mapping[str, Entry] = {
         _NO_LIST,
     ),
     "address": Entry(
-        "the term needs the very address (`%{i}`) in another form than `exists:%{ir}.NAME`, or NAME is longer than 189 "
-        "characters",
+        "the term needs the address itself (`%{i}`) in another form than `exists:%{ir}.NAME`, or NAME is longer than "
+        "189 characters",
         _NO_LIST,
     ),
     "reverse": Entry(
@@ -71,26 +73,26 @@ LINES: Mapping[str, Entry] = {
         "some address has no verdict: ADDRESS is the least of these", "see below, by CAUSE"
     ),
     "refused alias DOMAIN": Entry(
-        "the domain itself is an alias (a CNAME record), beside which no TXT record may stand",
+        "the domain itself is an alias (a CNAME record), so it can have no TXT record",
         "publish at the target, or put records in place of the alias",
     ),
     "refused taken K NAME": Entry(
-        "something stands already at or below the name of the K-th record behind the first", "choose another `--label`"
+        "a record already exists at or below the name of the K-th record after the first", "choose another `--label`"
     ),
     "too big": Entry(
-        "no 11 records hold the list below the size, or the domain's other texts leave no room for the first",
+        "the list does not fit into 11 records of this size, or the domain's other texts leave no room for the first",
         'a larger `--size`, or fewer other texts at the domain; see "Size, and the other TXT records"',
     ),
     "usage": Entry(
-        "the words give no job: an option that the command does not take, that stands behind a zone word, or that is "
-        "written twice, a number out of range, a label that does not begin with `_`, a final dot on DOMAIN, no zone "
-        "word, two of one origin or more than 64 (of `compare`, on either side of `with`), or LABEL10.DOMAIN longer "
+        "the arguments are not a job: an option that the command does not take, that comes after a zone word, or that "
+        "is given twice, a number out of range, a label that does not begin with `_`, a final dot on DOMAIN, no zone "
+        "word, two of one origin or more than 64 (with `compare`, on either side of `with`), or LABEL10.DOMAIN longer "
         "than 253 characters",
-        "mend the words; `spfc help COMMAND` has the synopsis",
+        "correct the arguments; `spfc help COMMAND` has the synopsis",
     ),
     "no file FILE": Entry(
         "there is no such file",
-        "mend the path; one that does not begin with `/` is taken from the folder where you are",
+        "correct the path; one that does not begin with `/` is relative to the current folder",
     ),
     "long file FILE": Entry(
         "the file has more than 8,388,608 bytes",
@@ -101,72 +103,76 @@ LINES: Mapping[str, Entry] = {
         "the entry that begins on this line is the first that is broken or has no meaning", "see below, by KIND"
     ),
     "bad list FILE LINE": Entry(
-        "FILE is no list that `keep` wrote: this line is the first that is not as a list has it, which is line 1 for "
-        "an empty file",
-        "have `keep` write the list anew, and change nothing in it by hand",
+        "FILE is not a list that `keep` wrote: this line is the first that does not have the form of a kept list, "
+        "which is line 1 for an empty file",
+        "write the list anew with `keep`, and do not change it by hand",
     ),
     "alias and other ORIGIN NAME": Entry(
         "NAME has two different CNAME records, or a CNAME record and an A, AAAA, MX, TXT or NS record",
-        "leave the alias or the others",
+        "remove the alias or the rest",
     ),
-    "read fault FILE": Entry("the file could not be read, as where it is a folder", "name a file that you may read"),
+    "read fault FILE": Entry(
+        "the file could not be read, for example because it is a folder", "name a file that you may read"
+    ),
 }
 
 REASONS: Mapping[str, Entry] = {
     "no zone LINE KIND": Entry(
-        "the file is no master file: the entry that begins on this line is the first that is broken or has no meaning",
+        "the file is not a master file: the entry that begins on this line is the first that is broken or has no "
+        "meaning",
         "see the table by KIND below",
     ),
     "no chain": Entry(
-        "the file has other records than a chain: 1 to 11 TXT records at the domain, LABEL1, LABEL2 and so on, in this "
+        "the records of the file are not a chain: 1 to 11 TXT records at the domain, LABEL1, LABEL2 and so on, in this "
         "order, of `ip4`, `ip6` and `all` terms, each leading to the next by `redirect`",
-        "take other records out of the file; a record with `a`, `mx` or `include` is no flat record: compile it",
+        "take other records out of the file; a record with `a`, `mx` or `include` is not flat: compile it",
     ),
     "no verdict ADDRESS": Entry(
         "this is the least address to which the file gives another verdict than the zones",
-        "ask `check` for it, over the zones and over the file. Do not publish: the file is wrong, or the zones are not "
-        "those that it was made from",
+        "run `check` for it, over the zones and over the file. Do not publish: the file is wrong, or it was made from "
+        "other zones",
     ),
     "no table LINE": Entry(
         "the verdicts are right, but the table does not show that no list is shorter: this line is misspelled, "
         "misplaced, wrong or missing",
-        "ask for the whole fragment with its comments, or make a table of your own: compile the file as the zone of "
-        "the domain",
+        "ask for the whole fragment with its comments, or make a table yourself: compile the file as the zone of the "
+        "domain",
     ),
     "no terms": Entry(
         "the verdicts are right, and the table shows that the list is too long",
-        "compile the zones, or live with the longer list",
+        "compile the zones, or accept the longer list",
     ),
     "no records": Entry(
-        "a record takes more room than `--size` leaves, or fewer records would hold the list",
-        "name the size that the file was made for; else compile the zones",
+        "a record takes more room than `--size` allows, or the list would fit into fewer records",
+        "give the size that the file was made for; otherwise compile the zones",
     ),
 }
 """Why `verify` does not accept a file."""
 
 WATCHED: Mapping[str, Entry] = {
     "fresh": Entry(
-        "each question of the list is answered as it was, so the policy gives every address the outcome that it gave",
-        "the policy asks for nothing; whether what is published is right is asked by `verify`",
+        "each question of the list is answered as it was; if the list is whole, as `keep` wrote it, the policy gives "
+        "every address the outcome that it gave",
+        "the policy asks for nothing; use `verify` to check the published records",
     ),
     "stale NAME KIND": Entry(
-        "this is the first question of the list that is answered otherwise than it was",
-        "gather again, compile, and `compare` with what is published: another answer may change no verdict",
+        "this is the first question of the list whose answer has changed",
+        "gather again, compile, and `compare` with the published records: a changed answer need not change a verdict",
     ),
 }
 """What `stale` says of a kept list that is one."""
 
 QUESTIONS: Mapping[str, Entry] = {
-    "A": Entry("the IPv4 addresses of a name, or of `exists` whether it has any", "`a`, `mx` of its hosts, `exists`"),
+    "A": Entry("the IPv4 addresses of a name, or for `exists` whether it has any", "`a`, `mx` of its hosts, `exists`"),
     "AAAA": Entry("the IPv6 addresses of a name", "`a`, `mx` of its hosts"),
     "MX": Entry("the mail hosts of a name", "`mx`"),
     "TXT": Entry("the record of a name", "the policy itself, `include`, `redirect`"),
     "REVERSE4": Entry(
-        "for each IPv4 address whether its four numbers, the last first, in front of the name have an A record",
+        "for each IPv4 address whether its four numbers, the last first, prepended to the name have an A record",
         "`exists:%{ir}.NAME`",
     ),
     "REVERSE6": Entry(
-        "for each IPv6 address whether its 32 hexadecimal digits, the last first, in front of the name have an A "
+        "for each IPv6 address whether its 32 hexadecimal digits, the last first, prepended to the name have an A "
         "record",
         "`exists:%{ir}.NAME`",
     ),
@@ -175,32 +181,37 @@ QUESTIONS: Mapping[str, Entry] = {
 
 _FLAT = "write the zone out flat first: `named-compilezone -o flat example.com zone`"
 _OUT = "take these records out of the copy"
-_MEND = "mend the entry that begins on that line"
+_CORRECT = "correct the entry that begins on that line"
 
 KINDS: Mapping[str, Entry] = {
-    "BadEscape": Entry("a backslash has neither three digits up to 255 nor another sign behind it", _MEND),
+    "BadEscape": Entry(
+        "a backslash is followed by neither three digits up to 255 nor a character that may be escaped", _CORRECT
+    ),
     "OpenQuote": Entry(
         "a line or the file ends inside quotes", "close the quotes on the same line; a long text is several strings"
     ),
-    "StrayParen": Entry("a closing parenthesis has no opening one", _MEND),
+    "StrayParen": Entry("a closing parenthesis has no opening one", _CORRECT),
     "OpenParen": Entry("the file ends inside parentheses", "close them: the entry begins on that line"),
     "Include": Entry("the file includes another one (`$INCLUDE`)", _FLAT),
-    "UnknownDirective": Entry("a directive other than `$ORIGIN` and `$TTL`, as `$GENERATE`", _FLAT),
+    "UnknownDirective": Entry("a directive other than `$ORIGIN` and `$TTL`, such as `$GENERATE`", _FLAT),
     "BadTtl": Entry(
-        "a TTL is no number of seconds or of weeks, days, hours, minutes and seconds, or stands twice", _MEND
+        "a TTL is not a number of seconds or of weeks, days, hours, minutes and seconds, or there are two", _CORRECT
     ),
-    "BadName": Entry("a name has an empty label, one of more than 63 octets, or more than 255 octets", _MEND),
-    "BadData": Entry("the data do not fit the type, as a wrong address, or words too many or too few", _MEND),
+    "BadName": Entry("a name has an empty label, one of more than 63 octets, or more than 255 octets", _CORRECT),
+    "BadData": Entry("the data do not fit the type, such as a wrong address, or too many or too few words", _CORRECT),
     "NoOwner": Entry(
         "the first record of the file begins with a blank, so it has no owner",
         "write its owner at the beginning of the line",
     ),
-    "NoType": Entry("a record has no type behind its owner, TTL and class", _MEND),
+    "NoType": Entry("a record has no type after its owner, TTL and class", _CORRECT),
     "Class": Entry("a class other than IN, or a second class", _OUT),
     "Dname": Entry(
-        "a DNAME record", f"{_OUT}; where the policy asks for a name below it, write in what that answers, or gather"
+        "a DNAME record",
+        f"{_OUT}; if the policy asks for a name below it, write in the answers of that name, or gather",
     ),
-    "TypeNumber": Entry("a type that is read is written as a number (`TYPE16`), or data in the form `\\#`", _FLAT),
+    "TypeNumber": Entry(
+        "a type that spfc reads is written as a number (`TYPE16`), or data are in the form `\\#`", _FLAT
+    ),
     "LongText": Entry(
         "a string of a TXT record has more than 255 octets, or all have more than 65,535",
         "cut the text into strings of 255 octets",
@@ -210,14 +221,14 @@ KINDS: Mapping[str, Entry] = {
 STATUSES: Mapping[int, Entry] = {
     6: Entry(
         "the output or the line could not be written whole",
-        "see to the disk or the pipe, and use nothing of what was written",
+        "check the disk or the pipe, and use nothing of what was written",
     ),
     7: Entry(
-        "want of memory; no output and no line of a refusal was written",
-        "run it where there is more memory, or read fewer records",
+        "there was not enough memory; no output and no line of a refusal was written",
+        "run it on a machine with more memory, or read fewer records",
     ),
-    9: Entry("the program could not have its words, as where one is no UTF-8; nothing was written", "mend the words"),
-    125: Entry("the build of the program failed, or a try", "see what stands above"),
+    9: Entry("an argument is not valid UTF-8; nothing was written", "correct the arguments"),
+    125: Entry("the build of the program failed, or a try", "see the messages above"),
 }
 
 

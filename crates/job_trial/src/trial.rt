@@ -1,9 +1,11 @@
 //! The job.
 
 use crate::line::write_line;
+use addr_bits::OrMemory;
 use jobs::{Job, Output};
-use loading::{Loaded, OrMemory, Refusal};
+use loading::Loaded;
 use policy_trial::run_trial;
+use refusals::Refusal;
 use spfc_words::{Input, Inputs, parse_number};
 use std::alloc::{AllocError, Global};
 use zone_answers::Questions;

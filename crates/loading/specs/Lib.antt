@@ -1,5 +1,2 @@
-pub mod Lines
 pub mod Loading
-pub mod Memory
 pub mod Reading
-pub mod Refusals

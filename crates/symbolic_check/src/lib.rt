@@ -2,7 +2,7 @@
 #![tactic(auto)]
 
 mod asked;
-mod both;
+mod evaluation;
 mod hosts;
 mod laws;
 mod networks;
@@ -10,5 +10,5 @@ mod state;
 mod steps;
 mod walk;
 
-pub use both::{Both, evaluate};
+pub use evaluation::{Outcomes, evaluate};
 pub use laws::rests_on_asked;

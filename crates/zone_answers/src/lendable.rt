@@ -33,7 +33,8 @@ fn is_body_fit(body: &Body) -> bool
 {
     match body {
         Body::Txt(strings) => are_strings_fit(strings),
-        _ => true,
+        Body::A(_) | Body::Aaaa(_) | Body::Mx(_, _) | Body::Cname(_) | Body::Ns(_) | Body::Other =>
+            true,
     }
 }
 

@@ -1,0 +1,14 @@
+use Rattle.std.proofs.Common.{◌++◌, length, flat_map}
+use Rattle.zone_writer.specs.Fragment.{quoted, strings_of}
+use Rattle.zone_writer.proofs.Strings.{Grows, Lacks}
+use Rattle.zone_writer.proofs.record.push_all.Given as goal
+
+-- the strings of the rest are what is missing, and some number bounds how many full ones are in it; nothing was dropped
+abbrev pub invariant-loop-rest : goal.invariant-loop-rest
+invariant-loop-rest l = record {
+  lacks : Lacks l.zone (l.initial.zone ++ flat_map quoted (strings_of l.fn.text)) l.rest;
+  grows : Grows l.initial.zone l.zone;
+}
+
+abbrev pub decreases-loop-rest : goal.decreases-loop-rest
+decreases-loop-rest l = length l.rest
