@@ -16,7 +16,13 @@ NEEDS = {
     "man": ("mandoc",),
 }
 """What tests need besides Python and the program: a name for --without, and the programs that must be installed."""
-_NEEDS_OF_FIXTURES = {"server": "servers", "second_server": "servers", "forwarder": "servers", "nights": "servers", "open_nights": "servers"}
+_NEEDS_OF_FIXTURES = {
+    "server": "servers",
+    "second_server": "servers",
+    "forwarder": "servers",
+    "nights": "servers",
+    "open_nights": "servers",
+}
 _OTHER_CHECKS = ("types", "format", "lint")
 """What bin/test checks besides these tests, and --without may name too."""
 

@@ -88,7 +88,9 @@ def _first_cases() -> dict[str, Case]:
     for folder in module.chosen([]):
         if not (folder / "full").exists() and not (folder / "memory").exists():
             for case in module.cases_of(folder):
-                found.setdefault(_key((case.line or case.output).decode("latin-1")), Case(folder, _words_of(case.words)))
+                found.setdefault(
+                    _key((case.line or case.output).decode("latin-1")), Case(folder, _words_of(case.words))
+                )
     return found
 
 
