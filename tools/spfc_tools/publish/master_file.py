@@ -142,6 +142,17 @@ def _kind_and_data(body: Sequence[Word]) -> tuple[RdataType, Sequence[Word]]:
     return dns.rdatatype.NONE, ()
 
 
+def _rewritten(entry: Entry, text: Text, ttl: int) -> Iterator[Edit]:
+    """A TXT record with another text and time to live: word by word, since parentheses and comments may lie between."""
+    written = next((word for word in entry.body if word not in entry.data and word.value[:1].isdigit()), None)
+    if written:
+        yield Edit(written.start, written.end, str(ttl))
+    else:
+        yield Edit(entry.body[0].start, entry.body[0].start, f"{ttl} ")
+    yield Edit(entry.data[0].start, entry.data[0].end, str(text))
+    yield from (Edit(word.start, word.end, "") for word in entry.data[1:])
+
+
 class MasterFile:
     """A zone in a master file, and the command that has the server load it."""
 
@@ -169,8 +180,7 @@ class MasterFile:
         elif change.old is not None and change.new is None:
             edits = source.without(texts[change.old])
         elif change.old is not None and change.new is not None:
-            body = texts[change.old].body
-            edits = [Edit(body[0].start, body[-1].end, f"{change.ttl} IN TXT {change.new}")]
+            edits = list(_rewritten(texts[change.old], change.new, change.ttl))
         self._write(source, edits)
 
     def remove(self, record: TextRecord) -> None:
@@ -275,6 +285,14 @@ class _Source:
 def next_serial(serial: int, today: datetime | None = None) -> int:
     """The serial number after another: one more (RFC 1982), or the first of today where it is made of a date."""
     first = int(f"{today or datetime.now(timezone.utc):%Y%m%d}00")
-    if 1980_01_01_00 <= serial < first:
+    if _is_dated(serial) and serial < first:
         return first
     return 1 if serial >= _MOST_SERIAL else serial + 1
+
+
+def _is_dated(serial: int) -> bool:
+    try:
+        datetime.strptime(str(serial)[:-2], "%Y%m%d")
+    except ValueError:
+        return False
+    return True
