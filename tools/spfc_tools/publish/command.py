@@ -239,7 +239,7 @@ def _joined(words: Sequence[str]) -> list[str]:
     rest = list(words)
     while rest:
         word = rest.pop(0)
-        if word == _TO and len(rest) > 1 and rest[0] in _WAYS_WITH_WORD:
+        if word == _TO and len(rest) > 1 and rest[0] in _WAYS_WITH_WORD and not rest[1].startswith(("-", "@")):
             joined.append(f"{_TO}={rest.pop(0)} {rest.pop(0)}")
         else:
             joined.append(word)
