@@ -1,8 +1,13 @@
 """Starts a tool of this checkout, whose package is in tools/."""
 
-import sys
-from importlib import import_module
-from pathlib import Path
+import signal
+
+# Until the tool itself handles it, an interrupt ends the process without a traceback.
+signal.signal(signal.SIGINT, signal.SIG_DFL)
+
+import sys  # noqa: E402
+from importlib import import_module  # noqa: E402
+from pathlib import Path  # noqa: E402
 
 
 def start(module: str) -> int:

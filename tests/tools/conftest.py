@@ -8,14 +8,9 @@ from pathlib import Path
 
 import pytest
 import servers
+from spfc_build.needs import NEEDS, Group
 from workplace import TOP, ZONES, Workplace
 
-NEEDS = {
-    "servers": ("named", "nsd"),
-    "package": ("dpkg-deb", "py3compile"),
-    "man": ("mandoc",),
-}
-"""What tests need besides Python and the program: a name for --without, and the programs that must be installed."""
 _NEEDS_OF_FIXTURES = {
     "server": "servers",
     "second_server": "servers",
@@ -23,8 +18,7 @@ _NEEDS_OF_FIXTURES = {
     "nights": "servers",
     "open_nights": "servers",
 }
-_OTHER_CHECKS = ("types", "format", "lint")
-"""What bin/test checks besides these tests, and --without may name too."""
+"""The groups of bin/test-tools that fixtures need."""
 
 
 def pytest_addoption(parser: pytest.Parser) -> None:
@@ -37,14 +31,13 @@ def pytest_addoption(parser: pytest.Parser) -> None:
         "--without",
         action="append",
         default=[],
-        choices=[*NEEDS, *_OTHER_CHECKS],
-        help="leave out the tests that need this; without this option they fail if it is not installed",
+        choices=list(Group),
+        help="leave out the tests of a group of bin/test-tools; else they fail if its packages are missing",
     )
 
 
 def pytest_configure(config: pytest.Config) -> None:
-    """Has the tests import the package of the checkout that is tried."""
-    config.addinivalue_line("markers", f"needs(name): the test needs this, one of {', '.join(NEEDS)}")
+    """Has the tests import the package of the checkout whose tools are tried."""
     sys.path.insert(0, str(config.getoption("tree").resolve() / "tools"))
 
 
@@ -66,10 +59,9 @@ def pytest_collection_modifyitems(config: pytest.Config, items: list[pytest.Item
 
 def pytest_runtest_setup(item: pytest.Item) -> None:
     """Fails a test if a program that it needs is missing."""
-    for name in sorted(_needs(item)):
-        for program in NEEDS[name]:
-            if not servers.has_tool(program):
-                pytest.fail(f"{program} is not installed; `--without {name}` leaves this test out", pytrace=False)
+    for need in NEEDS:
+        if need.group in _needs(item) and not servers.has_tool(need.probe):
+            pytest.fail(f"{need.package} is not installed; --without {need.group} leaves this test out", pytrace=False)
 
 
 @pytest.fixture(scope="session")

@@ -1,5 +1,6 @@
 """How `bin/spfc` builds the program: which crates it proves at once, and how a build ends."""
 
+import fcntl
 import io
 import os
 import shutil
@@ -12,27 +13,50 @@ from pathlib import Path
 import pytest
 from spfc_build import building, crates, progress, schedule
 from spfc_build.crates import Crate
+from spfc_build.rooms import Room
 from spfc_build.schedule import Check, Machine
 
 TOP = Path(__file__).resolve().parents[2]
 PLENTY = Machine(4, 64_000_000_000)
-RT = """#!/bin/sh
-name=$(basename "$PWD")
-echo "$name" >> "$FAKE_LOG"
-[ "$FAKE_HANGS" = "$name" ] && exec sleep 60
-[ "$FAKE_FAILS" = "$name" ] && { seq 1 30; exit 1; }
-mkdir -p out
-[ "$name" = spfc ] || exit 0
-printf '#!/bin/sh\\necho ran "$@"\\n' > out/spfc
-chmod +x out/spfc
+RT = """#!/usr/bin/python3
+import fcntl, os, sys, time
+from pathlib import Path
+
+here, said = Path.cwd(), os.environ
+folders = sorted(here.parent.iterdir())
+for folder in folders:
+    fcntl.flock(os.open(folder, os.O_RDONLY), fcntl.LOCK_EX)
+for folder in folders:
+    assert folder == here or (folder / "out/rlib/library").read_text() == folder.name
+Path("out/incremental").mkdir(parents=True, exist_ok=True)
+with open("out/incremental/kept", "a") as kept:
+    print("begun", file=kept)
+with open(said["FAKE_LOG"], "a") as log:
+    print(here.name, file=log)
+if here.name == said["FAKE_HANGS"]:
+    time.sleep(300)
+if here.name == said["FAKE_FAILS"]:
+    print(*range(1, 31), sep="\\n")
+    sys.exit(1)
+meets = {*said["FAKE_MEETS"].split()}
+while here.name in meets and not meets <= {*Path(said["FAKE_LOG"]).read_text().split()}:
+    time.sleep(0.02)
+if sys.argv[1] == "lib":
+    Path("out/rlib").mkdir(exist_ok=True)
+    Path("out/rlib/library").write_text(here.name)
+else:
+    Path("out/spfc").write_text("#!/bin/sh\\n")
+    Path("out/spfc").chmod(0o755)
 """
-"""Stands in for the command `rt`: it proves nothing, and makes the program."""
+"""Stands in for `rt`: it locks a crate and those below it, proves nothing, and makes libraries and the program."""
 CODE = """
 import sys
 from pathlib import Path
 
 from spfc_build import building
+from spfc_build.schedule import Machine
 
+building.machine = lambda: Machine(4, 64_000_000_000)
 print(building.ready(Path(sys.argv[1])))
 """
 """Builds the program of a repository, and prints where it is."""
@@ -78,6 +102,7 @@ def test_idle_processors_are_shared() -> None:
     assert started(made(one=""), set()) == {"one": 4}
     assert started(made(one=""), set(), machine=Machine(1, PLENTY.memory)) == {"one": 1}
     assert started(made(one="", two=""), set()) == {"one": 2, "two": 2}
+    assert started(made(one="", two="", three=""), set()) == {"one": 1, "three": 1, "two": 2}
 
 
 def test_longest_way_gets_two_jobs() -> None:
@@ -140,14 +165,15 @@ def test_few_lines_without_a_terminal() -> None:
 
 
 class Tree:
-    """A repository of three crates, and an `rt` that proves nothing."""
+    """A repository, and an `rt` that proves nothing."""
 
-    def __init__(self, top: Path) -> None:
+    def __init__(self, top: Path, *lines: str) -> None:
         self.top, self.log = top, top / "log"
-        (top / "crates.txt").write_text("spfc: high\nhigh: low\nlow:\n")
-        for name in ("low", "high", "spfc"):
-            (top / "crates" / name / "src").mkdir(parents=True)
-            (top / "crates" / name / "src" / "lib.rt").write_text("\n")
+        (top / "crates.txt").write_text("".join(f"{line}\n" for line in lines))
+        for line in lines:
+            source = top / "crates" / line.partition(":")[0] / "src"
+            source.mkdir(parents=True)
+            (source / "lib.rt").write_text("\n")
         (top / "bin").mkdir()
         (top / "bin" / "rt").write_text(RT)
         (top / "bin" / "rt").chmod(0o755)
@@ -158,11 +184,21 @@ class Tree:
         fixed = {"PATH": path, "PYTHONPATH": str(TOP / "tools"), "FAKE_LOG": str(self.log)}
         return subprocess.Popen(
             [sys.executable, "-c", CODE, str(self.top)],
-            env={**os.environ, "FAKE_HANGS": "", "FAKE_FAILS": "", **fixed, **environment},
+            env={**os.environ, "FAKE_HANGS": "", "FAKE_FAILS": "", "FAKE_MEETS": "", **fixed, **environment},
             stdout=subprocess.PIPE,
             stderr=subprocess.PIPE,
             text=True,
         )
+
+    def build(self, **environment: str) -> None:
+        """Builds the program."""
+        output, said = self.start(**environment).communicate(timeout=60)
+        assert output.strip() == str(building.program_of(self.top)), said
+        assert not [*self.top.glob("**/spfc-build/*")]
+
+    def kept(self, name: str) -> int:
+        """How many checks of the crate went on with what is kept of it."""
+        return len((self.top / "crates" / name / "out/incremental/kept").read_text().split())
 
     def built(self) -> list[str]:
         """The crates that `rt` was called for since this was last asked."""
@@ -178,30 +214,50 @@ class Tree:
             time.sleep(0.02)
 
 
-@pytest.fixture
-def tree(tmp_path: Path) -> Tree:
-    """A repository to build in."""
-    return Tree(tmp_path)
+@pytest.fixture(params=["git", "no git"])
+def tree(tmp_path: Path, request: pytest.FixtureRequest) -> Tree:
+    """A repository to build in: a clone, or its files alone."""
+    if request.param == "git":
+        (tmp_path / ".git").mkdir()
+    return Tree(tmp_path, "spfc: high", "high: low", "low:")
 
 
 def test_build_and_no_build(tree: Tree) -> None:
     """The crates are proved in order, and not again until a source changes."""
-    output, _ = tree.start().communicate(timeout=60)
-    assert output.strip() == str(building.program_of(tree.top))
+    tree.build()
     assert tree.built() == ["low", "high", "spfc"]
-    tree.start().communicate(timeout=60)
+    tree.build()
     assert tree.built() == []
     later = time.time() + 60
     os.utime(tree.top / "crates/high/src/lib.rt", (later, later))
-    tree.start().communicate(timeout=60)
+    tree.build()
     assert tree.built() == ["low", "high", "spfc"]
+    assert [tree.kept(name) for name in ("low", "high", "spfc")] == [2, 2, 2]
+
+
+def test_crates_that_share_one_are_proved_at_once(tmp_path: Path) -> None:
+    """Two checks over one crate run at the same time, though `rt` locks it."""
+    tree = Tree(tmp_path, "spfc: one two three", "one: low", "two: low", "three: low", "low:")
+    tree.build(FAKE_MEETS="one two three")
+    assert sorted(tree.built()[1:-1]) == ["one", "three", "two"]
 
 
 def test_source_that_changes_meanwhile(tree: Tree) -> None:
     """A source that was changed after the build began makes the program stale."""
-    tree.start().communicate(timeout=60)
+    tree.build()
     os.utime(tree.top / "crates/low/src/lib.rt")
     assert building.is_stale(tree.top, crates.read(tree.top))
+
+
+def test_program_of_the_second_compiler(tree: Tree) -> None:
+    """What `rt ci` made of an older program is removed."""
+    tree.build()
+    second = building.second_program_of(tree.top)
+    shutil.copy(building.program_of(tree.top), second)
+    assert building.programs(tree.top) == [building.program_of(tree.top), second]
+    building.program_of(tree.top).unlink()
+    tree.build()
+    assert building.programs(tree.top) == [building.program_of(tree.top)]
 
 
 def test_crate_that_fails(tree: Tree) -> None:
@@ -212,11 +268,13 @@ def test_crate_that_fails(tree: Tree) -> None:
     assert "the build failed at high, with 1 of 3 proved" in said
     assert "\n11\n" in said and "\n30\n" in said and "\n10\n" not in said
     assert tree.built() == ["low", "high"]
+    tree.build()
+    assert [tree.kept(name) for name in ("low", "high", "spfc")] == [2, 2, 1]
 
 
 @pytest.mark.parametrize("number", [signal.SIGTERM, signal.SIGINT, signal.SIGHUP, signal.SIGKILL])
-def test_end_of_the_build_ends_its_checks(tree: Tree, number: signal.Signals) -> None:
-    """However a build is ended, nothing that it started is left, and the next one is not held up."""
+def test_build_that_is_broken_off_goes_on(tree: Tree, number: signal.Signals) -> None:
+    """However a build is ended, nothing that it started is left, and the next one goes on with what it kept."""
     process = tree.start(FAKE_HANGS="high")
     tree.wait_for("high")
     children = Path(f"/proc/{process.pid}/task/{process.pid}/children").read_text().split()
@@ -228,8 +286,18 @@ def test_end_of_the_build_ends_its_checks(tree: Tree, number: signal.Signals) ->
         assert time.monotonic() < until
         time.sleep(0.02)
     assert not building.program_of(tree.top).exists()
-    output, _ = tree.start().communicate(timeout=60)
-    assert output.strip() == str(building.program_of(tree.top))
+    tree.build()
+    assert [tree.kept(name) for name in ("low", "high", "spfc")] == [2, 2, 1]
+
+
+def test_copy_of_a_crate_that_is_gone(tree: Tree) -> None:
+    """What a killed build left of a crate that is not built any more is removed, and what was made of it is kept."""
+    for name in ("gone", "there"):
+        (Room(tree.top, name).crate / "out").mkdir(parents=True)
+    (tree.top / "crates/there").mkdir()
+    tree.build()
+    assert (tree.top / "crates/there/out").is_dir()
+    assert not (tree.top / "crates/gone").exists()
 
 
 def test_second_build_waits(tree: Tree) -> None:
@@ -238,11 +306,23 @@ def test_second_build_waits(tree: Tree) -> None:
     tree.wait_for("high")
     second = tree.start()
     assert second.stderr is not None
-    assert "another build is at work" in second.stderr.readline()
+    assert "waiting for another command" in second.stderr.readline()
     first.terminate()
     first.communicate(timeout=60)
     output, _ = second.communicate(timeout=60)
     assert output.strip() == str(building.program_of(tree.top))
+
+
+def test_build_waits_for_rt(tree: Tree) -> None:
+    """A build waits while an `rt` works in one of its crates."""
+    held = os.open(tree.top / "crates/low", os.O_RDONLY)
+    fcntl.flock(held, fcntl.LOCK_EX)
+    process = tree.start()
+    assert process.stderr is not None
+    assert f"waiting for another command that works in {tree.top}/crates/low" in process.stderr.readline()
+    os.close(held)
+    process.communicate(timeout=60)
+    assert process.returncode == 0
 
 
 def test_no_kit(tree: Tree, monkeypatch: pytest.MonkeyPatch) -> None:

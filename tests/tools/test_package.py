@@ -44,7 +44,7 @@ def _words(name: str) -> list[str]:
 def _is_taken(workplace: Workplace, name: str, *options: str) -> bool:
     """Whether the program takes the command with these options."""
     workplace.write("zone", _ZONE)
-    zones = ["example.com=zone"] if COMMANDS[name].behind else []
+    zones = ["example.com=zone"] if COMMANDS[name].zones else []
     return workplace.spfc(*_words(name), *options, *zones).status != _USAGE
 
 
@@ -201,8 +201,8 @@ def test_installed_tools(installed: Workplace, workplace: Workplace, server: Ser
 @pytest.mark.needs("package")
 def test_modules_of_the_package(installed: Workplace) -> None:
     """The package has each module of the checkout, and its types."""
-    made = installed.folder / "root/usr/lib/python3/dist-packages"
-    source = TOP / "tools"
+    made = installed.folder / "root/usr/lib/python3/dist-packages/spfc_tools"
+    source = TOP / "tools/spfc_tools"
     wanted = [path.relative_to(source) for path in source.rglob("*") if path.suffix == ".py" or path.name == "py.typed"]
     assert sorted(path.relative_to(made) for path in made.rglob("*") if path.is_file()) == sorted(wanted)
 

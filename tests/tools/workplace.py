@@ -7,7 +7,7 @@ from collections.abc import Mapping, Sequence
 from dataclasses import dataclass
 from pathlib import Path
 
-from servers import HOST, Server
+from servers import Server
 
 TOP = Path(__file__).resolve().parents[2]
 ZONES = Path(__file__).with_name("zones")

@@ -1,6 +1,5 @@
 """Builds the program where it is missing or older than a source."""
 
-import fcntl
 import os
 import shutil
 import signal
@@ -18,6 +17,7 @@ from typing import IO, NoReturn
 from . import crates as crates_of
 from .crates import Crate
 from .progress import Progress
+from .rooms import Room, alone, leave_all
 from .schedule import Check, Machine, next_checks, ways_up
 
 _PAUSE = 0.05
@@ -34,9 +34,10 @@ class BuildFailed(Exception):
 
 @dataclass(frozen=True)
 class Running:
-    """A check, with its process and what that has written."""
+    """A check, with the copy of the tree that it works in, its process, and what that has written."""
 
     check: Check
+    room: Room
     process: subprocess.Popen[bytes]
     log: IO[bytes]
 
@@ -87,15 +88,17 @@ def _command(check: Check) -> list[str]:
     return [*guard, "rt", verb, "--jobs", str(check.jobs)]
 
 
-def _start(top: Path, check: Check) -> Running:
+def _start(top: Path, crates: Mapping[str, Crate], check: Check) -> Running:
+    room = Room(top, check.name)
+    room.make(crates)
     log = tempfile.TemporaryFile()
-    folder = top / "crates" / check.name
-    process = subprocess.Popen(_command(check), cwd=folder, stdin=subprocess.DEVNULL, stdout=log, stderr=log)
-    return Running(check, process, log)
+    process = subprocess.Popen(_command(check), cwd=room.crate, stdin=subprocess.DEVNULL, stdout=log, stderr=log)
+    return Running(check, room, process, log)
 
 
 def _is_proved(top: Path, running: Running) -> bool:
     """Whether a check that has ended proved its crate. That of the program has the program's own status."""
+    running.room.leave()
     if running.check.name == crates_of.PROGRAM:
         return os.access(program_of(top), os.X_OK)
     return running.process.returncode == 0
@@ -112,6 +115,7 @@ def _end(at_work: list[Running]) -> None:
         except subprocess.TimeoutExpired:
             running.process.kill()
             running.process.wait()
+        running.room.leave()
 
 
 def _failed(running: Running, proved: int, whole: int, seconds: float) -> NoReturn:
@@ -135,8 +139,8 @@ def _prove(top: Path, crates: Mapping[str, Crate]) -> None:
     progress = Progress(len(crates))
     try:
         while len(proved) < len(crates):
-            checks = next_checks(crates, ways, proved, [running.check for running in at_work], limits)
-            at_work += [_start(top, check) for check in checks]
+            for check in next_checks(crates, ways, proved, [running.check for running in at_work], limits):
+                at_work.append(_start(top, crates, check))
             progress.show(len(proved), [running.check.name for running in at_work])
             time.sleep(_PAUSE)
             for running in [it for it in at_work if it.process.poll() is not None]:
@@ -165,24 +169,12 @@ def _ending() -> Iterator[None]:
             signal.signal(number, handler)
 
 
-@contextmanager
-def _alone(top: Path) -> Iterator[None]:
-    """Waits while another build works in this tree."""
-    (top / "out").mkdir(exist_ok=True)
-    with open(top / "out" / "build.lock", "w") as lock:
-        try:
-            fcntl.flock(lock, fcntl.LOCK_EX | fcntl.LOCK_NB)
-        except BlockingIOError:
-            say("another build is at work in this folder: waiting for its end")
-            fcntl.flock(lock, fcntl.LOCK_EX)
-        yield
-
-
 def _build(top: Path, crates: Mapping[str, Crate]) -> None:
     """Builds the program. It gets the time at which the build began, so that a later change of a source is seen."""
     begun = time.time()
     say("building the program: each crate is proved, which takes long the first time")
     program = program_of(top)
+    leave_all(top)
     for made in (program, second_program_of(top)):
         made.unlink(missing_ok=True)
     _prove(top, crates)
@@ -198,7 +190,7 @@ def ready(top: Path) -> Path:
         raise BuildFailed(
             "rt is not here, the command of the Rattle kit that proves and builds the program: see README"
         )
-    with _ending(), _alone(top):
+    with _ending(), alone(top, crates_of.read(top), lambda at: say(f"waiting for another command that works in {at}")):
         crates = crates_of.read(top)
         if is_stale(top, crates):
             _build(top, crates)

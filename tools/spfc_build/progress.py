@@ -7,18 +7,18 @@ from collections.abc import Collection
 from typing import TextIO
 
 _PAUSE = 10
-"""Seconds at least between two lines where there is no terminal."""
+"""The fewest seconds between two lines without a terminal."""
 _ERASE = "\r\x1b[K"
 
 
 def line(proved: int, whole: int, at_work: Collection[str], seconds: float) -> str:
-    """How many crates are proved, and which are at work, after so many seconds."""
+    """How many crates are proved, which are at work, and for how many seconds the build has run."""
     names = f": {', '.join(at_work)}" if at_work else ""
     return f"{proved} of {whole} proved, {len(at_work)} at work{names}, {seconds:.0f} s"
 
 
 class Progress:
-    """Shows the line: on a terminal in place, else when what it says has changed, at most once in ten seconds."""
+    """Shows the line: on a terminal in place, else if it says something new and the last one is ten seconds old."""
 
     def __init__(self, whole: int, stream: TextIO = sys.stderr) -> None:
         self._whole = whole

@@ -67,7 +67,7 @@ def next_checks(
     nothing is at work.
     """
     begun = {*proved, *(check.name for check in at_work)}
-    longest = max((way for name, way in ways.items() if name not in proved), default=0)
+    longest = sorted(way for name, way in ways.items() if name not in proved)[-2:]
     ready = [crate for crate in crates.values() if crate.name not in begun and crate.uses <= {*proved}]
     ready.sort(key=lambda crate: (-ways[crate.name], crate.name))
     idle = machine.processors - sum(check.jobs for check in at_work)
@@ -77,8 +77,9 @@ def next_checks(
         is_alone = not at_work and not checks
         if idle < 1 or (memory < memory_of(crate) and not is_alone):
             continue
-        is_longest = ways[crate.name] == longest and machine.processors >= _MOST_JOBS
-        jobs = max(2 if is_longest else 1, min(_MOST_JOBS, idle // (len(ready) - position)))
+        is_longest = longest.count(ways[crate.name]) == 1 and ways[crate.name] == longest[-1]
+        least = 2 if is_longest and machine.processors >= _MOST_JOBS else 1
+        jobs = max(least, min(_MOST_JOBS, idle // (len(ready) - position)))
         while jobs > 1 and memory < memory_of(crate, jobs):
             jobs -= 1
         checks.append(Check(crate.name, jobs, memory_of(crate, jobs)))

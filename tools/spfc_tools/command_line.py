@@ -2,12 +2,16 @@
 
 import argparse
 import logging
+import os
+import re
 import signal
 import sys
 from collections.abc import Callable, Iterable, Sequence
 from pathlib import Path
 from typing import NoReturn
 
+from spfc_tools import files
+from spfc_tools.cautions import cautions
 from spfc_tools.commands import NUMBERS, OPTIONS
 from spfc_tools.exit_statuses import Ending, ExitStatus, Status
 from spfc_tools.places import version_number
@@ -18,6 +22,8 @@ _TRIED_ADDRESS = "192.0.2.1"
 _STOPPED = 128
 """Added to the number of a signal that ends a tool."""
 _MOST_NUMBER = 99_999
+_WITH_PORT = re.compile(r"([^:]+|\[[^]]+\])[:#](\d+)")
+"""A server with a port, which has an option for itself."""
 CHAIN = ("--size", "--ttl", "--label")
 """The options of spfc that decide how the records of a chain are cut and named."""
 
@@ -82,7 +88,24 @@ def _server_or_zone(text: str) -> str:
     return text
 
 
+def _domain_server_or_zone(text: str) -> str:
+    """A domain, `@SERVER` or `ORIGIN=FILE`."""
+    return _server_or_zone(text) if text.startswith("@") or "=" in text else domain(text)
+
+
 # ------------------------------------------------------------- options
+
+
+def add_domains_servers_and_zones(parser: Parser) -> None:
+    """Adds `DOMAIN` once or more, `@SERVER` and `ORIGIN=FILE`, in any order."""
+    parser.add_argument(
+        "servers_and_zones",
+        metavar="DOMAIN.. | @SERVER | ORIGIN=FILE",
+        nargs="+",
+        type=_domain_server_or_zone,
+        help="gather the policy of each DOMAIN; ask this name server, by its name or address; read the zone ORIGIN from"
+        " FILE and not from DNS",
+    )
 
 
 def add_servers_and_zones(parser: Parser) -> None:
@@ -132,13 +155,20 @@ def number(arguments: argparse.Namespace, name: str) -> int:
 
 
 def parse(parser: Parser, words: Sequence[str]) -> argparse.Namespace:
-    """The options and words, with the server as `server` and the zone words as `beside`; starts the log."""
+    """The options and words, with the server as `server`, the zone words as `zones`, and other words as `domains`.
+
+    Starts the log.
+    """
     arguments = parser.parse_intermixed_args(words)
     servers = [word for word in arguments.servers_and_zones if word.startswith("@")]
     if len(servers) > 1:
         parser.error(f"expected one @SERVER, got {' '.join(servers)}")
     arguments.server = servers[0][1:] if servers else None
-    arguments.beside = tuple(word for word in arguments.servers_and_zones if not word.startswith("@"))
+    if found := _WITH_PORT.fullmatch(arguments.server or ""):
+        parser.error(f"expected @SERVER, got @{arguments.server}: give the port by -p {found[2]}")
+    arguments.zones = tuple(word for word in arguments.servers_and_zones if "=" in word)
+    others = (word for word in arguments.servers_and_zones if not word.startswith("@") and "=" not in word)
+    arguments.domains = tuple(dict.fromkeys(others))
     if arguments.verbose:
         start_log(parser.prog)
     return arguments
@@ -164,6 +194,32 @@ def judge_check(program: Program, of_domain: str, reading: Sequence[str]) -> Non
     judge(program, ["check", of_domain, _TRIED_ADDRESS, *reading])
 
 
+def judge_files(output: Path | None, read: Iterable[Path | None], zones: Iterable[str] = ()) -> None:
+    """Ends with status 4 if the output would replace a file that is also read: one of these, or that of a zone word."""
+    inputs = [*read, *(Path(word.partition("=")[2]) for word in zones)]
+    if output is not None and any(file is not None and files.are_same(output, file) for file in inputs):
+        raise Ending(Status.USAGE, f"expected another file to write to than those that are read, got {output}")
+
+
+def judge_zones(program: Program, of_domain: str, reading: Sequence[str], zones: Sequence[str]) -> None:
+    """Ends with what spfc says of the files of the zone words, before anything is asked of DNS."""
+    ended = program.over(["deps", of_domain, *reading, *zones], "")
+    if ended.status:
+        raise Ending(Status.TOOL, ended.line)
+
+
+def warn(tool: str, program: Program, of_domain: str, reading: Sequence[str], others: Sequence[str], zone: str) -> None:
+    """Writes to standard error what a policy lacks over a zone of the root and other zones."""
+    zones = program.zones_of(zone, others)
+
+    def run_program(words: Sequence[str]) -> tuple[int, str]:
+        ended = program.run(words)
+        return ended.status, ended.output
+
+    for line in cautions(run_program, of_domain, reading, zones):
+        print(f"{tool}: warning: {line}", file=sys.stderr)
+
+
 # ------------------------------------------------------------- running
 
 
@@ -176,12 +232,21 @@ def start_log(tool: str) -> None:
     log.setLevel(logging.INFO)
 
 
+class _Stopped(BaseException):
+    """A signal ends the tool."""
+
+    def __init__(self, number: int) -> None:
+        super().__init__(number)
+        self.number = number
+
+
 def run(tool: str, main: Callable[[Sequence[str]], int]) -> int:
     """Runs a tool with the words of the command line, and returns its exit status.
 
-    An `Ending` is written to standard error. SIGTERM, SIGHUP and SIGINT end the tool with 128 and their number.
+    An `Ending` is written to standard error. SIGTERM, SIGHUP and SIGINT end the tool at once, with 128 and their
+    number: no thread that waits for a server is waited for.
     """
-    for number in (signal.SIGTERM, signal.SIGHUP):
+    for number in (signal.SIGTERM, signal.SIGHUP, signal.SIGINT):
         signal.signal(number, _stop)
     try:
         return main(sys.argv[1:])
@@ -189,9 +254,9 @@ def run(tool: str, main: Callable[[Sequence[str]], int]) -> int:
         for line in ending.lines:
             print(line if line.startswith(("usage:", " ", f"{tool}: ")) else f"{tool}: {line}", file=sys.stderr)
         return int(ending.status)
-    except KeyboardInterrupt:
-        return _STOPPED + signal.SIGINT
+    except _Stopped as stopped:
+        os._exit(_STOPPED + stopped.number)
 
 
 def _stop(number: int, _frame: object) -> NoReturn:
-    sys.exit(_STOPPED + number)
+    raise _Stopped(number)

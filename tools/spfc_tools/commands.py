@@ -60,21 +60,21 @@ OPTIONS: Mapping[str, Option] = {
 }
 READING = ("--lookups", "--voids", "--exchanges")
 READING_WORD = "READING"
-"""What stands for these where all options are listed."""
+"""The word for these options in the short synopsis."""
 WITH = "with"
 """The word between the zones of two policies."""
 MORE = ".."
-"""What a place ends with that takes as many words as stand there."""
+"""The end of a place that takes one word or more."""
 _ZONES = "ORIGIN=FILE.."
 
 
 @dataclass(frozen=True)
 class Command:
-    """A command: its words in front of the options, its options, the words behind them, and what it is for."""
+    """A command: the words before its options, its options, the zone words after them, and what it is for."""
 
     places: tuple[str, ...]
     options: tuple[str, ...]
-    behind: str
+    zones: str
     purpose: str
 
     def synopsis(self, name: str) -> str:
@@ -87,7 +87,7 @@ class Command:
         return self._words(name, [f"[{READING_WORD}]", *others] if len(others) < len(self.options) else others)
 
     def _words(self, name: str, options: Sequence[str]) -> str:
-        return " ".join([name, *self.places, *options, self.behind]).rstrip()
+        return " ".join([name, *self.places, *options, self.zones]).rstrip()
 
 
 def _bracketed(option: str) -> str:
@@ -157,7 +157,7 @@ class Words:
                 return [(self.places[0], self.zones)]
 
     def with_options(self, dropped: str, *added: str) -> list[str]:
-        """All words, without this option and with these besides."""
+        """All words, without this option and with these words added."""
         kept = [word for option in self.options if option[0] != dropped for word in option]
         return [self.command, *self.places, *kept, *added, *self.zones]
 
@@ -177,7 +177,7 @@ def part(words: Sequence[str]) -> Words | None:
 
 
 def _count(places: Sequence[str], words: Sequence[str]) -> int:
-    """How many words stand in the places, the last of which may take more than one."""
+    """The number of words in the places. The last place may take more than one."""
     if not places[-1].endswith(MORE):
         return len(places)
     return next((number for number, word in enumerate(words) if word in OPTIONS or "=" in word), len(words))

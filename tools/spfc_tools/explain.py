@@ -6,6 +6,7 @@ from collections.abc import Iterable, Iterator, Sequence
 from pathlib import Path
 
 from spfc_tools import command_line
+from spfc_tools.bad_words import bad_words
 from spfc_tools.commands import COMMANDS, part
 from spfc_tools.exit_statuses import ExplainStatus
 from spfc_tools.looking import Looker, wrong_words
@@ -24,6 +25,7 @@ from spfc_tools.refusals import (
     Line,
     read_line,
 )
+from spfc_tools.tool_lines import ToolLine, read_tool_line, without_tool
 
 TOOL = "spfc-explain"
 _WAYS = {
@@ -62,21 +64,45 @@ def _entries(line: Line) -> list[Entry]:
     return [entry.plain, *([KINDS[kind].plain] if kind in KINDS else [])]
 
 
+def explain_lines(text: str) -> int:
+    """Explains each line of a text."""
+    statuses = set()
+    for number, line in enumerate(line.strip() for line in text.splitlines() if line.strip()):
+        if number:
+            print()
+        statuses.add(explain_line(line))
+    return max(statuses)
+
+
 def explain_line(text: str) -> int:
-    """Explains a line alone."""
-    line = read_line(text.strip())
-    if line is None:
-        print(f"This is no line of spfc: {text.strip()}")
+    """Explains a line alone, of spfc or of a tool around it."""
+    if line := read_line(without_tool(text)):
+        print(*explained(line), sep="\n")
+    elif tool_line := read_tool_line(text):
+        print(*explained_of_tool(tool_line), sep="\n")
+    else:
+        print(f"This is no line of spfc: {text}")
         return ExplainStatus.NOT_KNOWN
-    print(*explained(line), sep="\n")
     return ExplainStatus.DONE
+
+
+def explained_of_tool(line: ToolLine) -> Iterator[str]:
+    """What the line of a tool means, what helps, and the same of the line of spfc in it."""
+    yield line.text
+    yield f"What it means: {line.entry.meaning}."
+    yield f"What helps: {line.entry.help}."
+    if inner := read_line(line.inner):
+        yield ""
+        yield from explained(inner)
 
 
 def explain_run(program: Program, given: list[str]) -> int:
     """Runs a command, and explains what it says."""
     ended = program.run(given)
     if ended.status == USAGE:
-        looked = [f"Without these words the others give a job: {words}" for words in wrong_words(program, given)]
+        looked = list(bad_words(program, given)) or [
+            f"Without these words the others give a job: {words}" for words in wrong_words(program, given)
+        ]
         print(
             *explained(
                 Line("usage", "usage", {}), [*looked, f"How they go: spfc {COMMANDS[given[0]].synopsis(given[0])}"]
@@ -99,7 +125,7 @@ def explain_run(program: Program, given: list[str]) -> int:
 
 
 def _last_line(given: Sequence[str], ended: Run) -> str:
-    """The line of the refusal, behind what listeners were told, or the one line that `check` or `stale` printed."""
+    """The line of the refusal, after the lines of --trace, or the one line that `check` or `stale` printed."""
     if ended.status:
         return ended.line.rpartition("\n")[2]
     return ended.output.rstrip("\n") if given[0] in ("check", "stale") else ""
@@ -108,8 +134,8 @@ def _last_line(given: Sequence[str], ended: Run) -> str:
 def _parser() -> command_line.Parser:
     parser = command_line.Parser(
         TOOL,
-        "Says in plain words what a line of spfc means, and what helps. If the words are a command line of spfc, runs\n"
-        "it, looks into its files, and explains what it printed.",
+        "Says in plain words what a line of spfc or of a tool means, and what helps. If the words are a command line\n"
+        "of spfc, runs it, looks into its files, and explains what it printed.",
         examples=(
             "spfc-explain refused 0.0.0.0 lookups example.com 12",
             "spfc-explain compile example.com .=gathered",
@@ -135,7 +161,7 @@ def _run(given: Sequence[str]) -> int:
     text = " ".join(given) if given else sys.stdin.read()
     if not text.strip():
         parser.error("expected a line of spfc, got none")
-    return explain_line(text)
+    return explain_lines(text)
 
 
 def main() -> int:

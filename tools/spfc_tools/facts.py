@@ -1,4 +1,4 @@
-"""Questions to DNS, what was answered to each, and the chains of aliases in the answers."""
+"""Questions to DNS, the answer to each, and the chains of aliases in the answers."""
 
 import enum
 from collections.abc import Iterable
@@ -12,7 +12,7 @@ from spfc_tools import names
 class Kind(enum.StrEnum):
     """The type of the records that a question is for. CNAME is asked by the tools alone, of names that must be free.
 
-    The two of reversed addresses stand for A at the reversed name of each address of a family, in front of the name.
+    The two of reversed addresses ask for A at the reversed name of each address of a family, before the name.
     """
 
     A = "A"
@@ -25,7 +25,7 @@ class Kind(enum.StrEnum):
 
     @property
     def is_reversed(self) -> bool:
-        """Whether it stands for a question for each address of a family."""
+        """Whether it is a question for each address of a family."""
         return self in (Kind.REVERSE4, Kind.REVERSE6)
 
 
@@ -71,7 +71,7 @@ class Data:
 
 
 class Void(enum.Enum):
-    """There is no record of this kind: the name is there without it, or does not exist."""
+    """The name has no records of this kind, or does not exist."""
 
     NO_DATA = enum.auto()
     NO_NAME = enum.auto()
@@ -109,15 +109,20 @@ class Chain:
 
 
 class Facts:
-    """What was answered so far. The first answer to a question counts, and no later one is mixed into it."""
+    """The answers so far. The first answer to a question counts, and no later one is mixed into it."""
 
     def __init__(self) -> None:
         self._answers: dict[Question, Answer] = {}
 
     def learn(self, question: Question, answer: Answer) -> None:
-        """Takes an answer up, unless the question has one that is no failure."""
+        """Takes an answer up, unless the question has one that is not a failure."""
         if isinstance(self._answers.get(question, Failure("")), Failure):
             self._answers[question] = answer
+
+    @property
+    def has_answers(self) -> bool:
+        """Whether any question has an answer that is not a failure."""
+        return any(not isinstance(answer, Failure) for answer in self._answers.values())
 
     def answer(self, question: Question) -> Answer | None:
         """The answer itself, where there is one."""

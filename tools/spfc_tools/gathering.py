@@ -1,4 +1,4 @@
-"""Asks DNS until every question on which a policy rests is answered."""
+"""Asks DNS until every question that a policy asks is answered."""
 
 import itertools
 from collections.abc import Iterable, Iterator
@@ -12,9 +12,9 @@ from spfc_tools.exit_statuses import Ending, Status
 from spfc_tools.facts import Alias, Answer, Chain, Data, Facts, Kind, Question, Void, read_question, read_questions
 from spfc_tools.program import Asker, Program
 from spfc_tools.progress import Progress
-from spfc_tools.resolving import Resolver
-from spfc_tools.sender_lists import Lists, targets_beside
-from spfc_tools.texts import presented
+from spfc_tools.resolving import NO_REPLY, Resolver
+from spfc_tools.sender_lists import Lists, targets_in_files
+from spfc_tools.texts import presented, why_no_policy
 from spfc_tools.transfers import Transfers
 from spfc_tools.world import World
 
@@ -27,7 +27,8 @@ def read_policy(path: Path, program: Program) -> str:
         raise Ending(Status.TOOL, f"{path}: {error.strerror}") from error
     record = presented(text)
     if b"\n" in text or not program.is_policy(record):
-        raise Ending(Status.USAGE, f"{path} is not the text of one SPF record")
+        why = "it has several lines" if b"\n" in text else why_no_policy(text)
+        raise Ending(Status.USAGE, f"{path} is not the text of one SPF record{f': {why}' if why else ''}")
     return record
 
 
@@ -43,39 +44,41 @@ _MOST_ROUNDS = 1_000
 _MOST_QUESTIONS = 20_000
 _PROBE = b"_spfc"
 NEEDED_NAMES = 10
-"""As many names a chain may have behind the domain."""
+"""The number of names that a chain may have after the domain."""
 
 
 @dataclass(frozen=True)
 class Request:
-    """What is gathered: the policy of a domain under some reading options, and whether the chain's names are free.
+    """What is gathered: the policies of domains under some reading options, and whether their chains' names are free.
 
-    The zone words `beside` name zones that are read beside the file, and of which DNS is asked nothing.
+    A `policy` is read in place of the record of the one domain. The `zones` name zones that are read
+    together with the file, and of which DNS is asked nothing.
     """
 
-    domain: str
+    domains: tuple[str, ...]
     reading: tuple[str, ...] = ()
     exchanges: int = 10
     label: str | None = None
     policy: str | None = None
-    beside: tuple[str, ...] = ()
+    zones: tuple[str, ...] = ()
 
     @property
-    def name(self) -> Name:
-        """The domain as a name."""
-        return names.read(self.domain)
+    def names(self) -> list[Name]:
+        """The domains as names."""
+        return [names.read(domain) for domain in self.domains]
 
     @property
     def needed(self) -> list[Name]:
-        """The names that a chain under the label may need, where they are asked for."""
+        """The names that the chain of each domain may need under the label, where they are asked for."""
         if self.label is None:
             return []
-        needed = (names.read(f"{self.label}{number}.{self.domain}") for number in range(1, NEEDED_NAMES + 1))
-        return [name for name in needed if not self.is_beside(name)]
+        places = itertools.product(self.domains, range(1, NEEDED_NAMES + 1))
+        needed = (names.read(f"{self.label}{number}.{domain}") for domain, number in places)
+        return [name for name in needed if not self.is_in_a_file(name)]
 
-    def is_beside(self, name: Name) -> bool:
-        """Whether the name is at or below the origin of a zone that is read beside the file."""
-        return any(name.is_subdomain(names.read(word.partition("=")[0])) for word in self.beside)
+    def is_in_a_file(self, name: Name) -> bool:
+        """Whether the name is at or below the origin of a zone that comes from a file."""
+        return any(name.is_subdomain(names.read(word.partition("=")[0])) for word in self.zones)
 
 
 @dataclass(frozen=True)
@@ -98,16 +101,16 @@ class Gathering:
         self._request = request
         self._program = program
         self._resolver = resolver
-        self._lists = Lists(Transfers(resolver), request.is_beside)
+        self._lists = Lists(Transfers(resolver), request.is_in_a_file)
         self._progress = progress
         self._facts = Facts()
         self._policy_answer: Answer | None = None
         self._leading_out: set[str] = set()
-        self._text = Question(request.name, Kind.TXT)
+        self._texts = [Question(name, Kind.TXT) for name in request.names]
 
     def gather(self) -> Gathered:
         """The world of what spfc asks over it, or the end where one of these questions has no answer."""
-        questions = [] if self._request.is_beside(self._request.name) else [self._text]
+        questions = [text for text in self._texts if not self._request.is_in_a_file(text.name)]
         for number in range(1, _MOST_ROUNDS + 1):
             self._ask_missing(questions, f"round {number}")
             asked = self._asked(self._world([*questions, *self._expected(questions)]), number)
@@ -122,31 +125,39 @@ class Gathering:
         """The world of what is asked alone. Whatever else was answered changes nothing in it."""
         world = self._world(questions)
         if failures := list(world.failures()):
-            raise Ending(Status.NO_ANSWER, *failures)
-        if world.is_mixed(self._request.name):
-            line = f"contradiction: {self._request.domain} is an alias for some kinds of records alone"
-            raise Ending(Status.CONTRADICTION, line)
+            raise Ending(Status.NO_ANSWER, *self._shown_failures(failures))
+        for domain, name in zip(self._request.domains, self._request.names):
+            if world.is_mixed(name):
+                line = f"contradiction: {domain} is an alias for some kinds of records alone"
+                raise Ending(Status.CONTRADICTION, line)
         if self._asked(world, number) != questions:
             raise Ending(Status.CONTRADICTION, "contradiction: the file would not answer as DNS does")
         return Gathered(world, questions)
+
+    def _shown_failures(self, failures: list[str]) -> list[str]:
+        """The lines of the failures, or one line where no server replied at all: no name is wrong then."""
+        if self._facts.has_answers or not all(failure.endswith(f": {NO_REPLY}") for failure in failures):
+            return failures
+        return [f"{NO_REPLY} from {' '.join(self._resolver.servers)} port {self._resolver.port}"]
 
     def _asked(self, world: World, number: int) -> list[Question]:
         """What spfc asks over a world."""
         self._progress.tell(f"round {number}: what is asked")
         request, zone = self._request, world.zone()
-        lines = self._program.questions(request.domain, request.reading, zone, request.beside)
-        asker = Asker(self._program, request.reading, self._program.zones(request.beside))
+        asked_by = (self._program.questions(one, request.reading, zone, request.zones) for one in request.domains)
+        lines = list(dict.fromkeys(itertools.chain.from_iterable(asked_by)))
+        asker = Asker(self._program, request.reading, self._program.zones(request.zones))
         reversed_lines = [line for line in lines if read_question(line).kind.is_reversed]
         lines += [line for line in self._lines_of_lists(reversed_lines) if line not in lines]
-        asked = read_questions(line for line in lines if not self._is_answered_beside(line, asker))
+        asked = read_questions(line for line in lines if not self._is_answered_by_a_file(line, asker))
         if len(asked) > _MOST_QUESTIONS:
             raise Ending(Status.CONTRADICTION, f"more than {_MOST_QUESTIONS} questions")
         return asked
 
-    def _is_answered_beside(self, line: str, asker: Asker) -> bool:
-        """Whether a question of `deps` is answered by the zones beside the file, and never led out of them."""
+    def _is_answered_by_a_file(self, line: str, asker: Asker) -> bool:
+        """Whether the zones from files answer a question of `deps`, and it never led out of them."""
         question = read_question(line)
-        if not self._request.is_beside(question.name):
+        if not self._request.is_in_a_file(question.name):
             return False
         if question.kind.is_reversed:
             return True
@@ -155,9 +166,9 @@ class Gathering:
         return line not in self._leading_out
 
     def _lines_of_lists(self, lines: list[str]) -> Iterator[str]:
-        """The questions to which lists of addresses lead in the zones beside the file."""
+        """The questions to which lists of addresses lead in the zones from files."""
         for line in lines:
-            targets = targets_beside(self._request.beside, read_question(line))
+            targets = targets_in_files(self._request.zones, read_question(line))
             yield from sorted({str(Question(target, Kind.A)) for target in targets})
 
     def _ask_missing(self, questions: list[Question], place: str) -> None:
@@ -196,9 +207,10 @@ class Gathering:
     # ------------------------------------------------------------- names that must not stand by themselves
 
     def _probes(self) -> Iterator[Question]:
-        """What tells whether the domain stands there by itself, and whether the names of the chain are free."""
-        if self._facts.exists(self._text):
-            yield from self._probe(self._request.name)
+        """What tells whether each domain stands there by itself, and whether the names of the chain are free."""
+        for text in self._texts:
+            if self._facts.exists(text):
+                yield from self._probe(text.name)
         for name in self._request.needed:
             yield Question(name, Kind.CNAME)
             if self._facts.exists(Question(name, Kind.CNAME)):
@@ -224,14 +236,11 @@ class Gathering:
         return isinstance(answer, Alias) and answer.is_made
 
     def _floating(self) -> Iterator[Name]:
-        """The domain and the names of the chain, where they do not stand there by themselves."""
-        chain = self._facts.chain(self._text)
-        if (
-            self._facts.exists(self._text)
-            and self._has_more_than_nothing(chain)
-            and self._is_of_wildcard(chain.steps[0].name)
-        ):
-            yield self._request.name
+        """The domains and the names of the chains, where they do not stand there by themselves."""
+        for text in self._texts:
+            has_more = self._facts.exists(text) and self._has_more_than_nothing(self._facts.chain(text))
+            if has_more and self._is_of_wildcard(text.name):
+                yield text.name
         for name in self._request.needed:
             question = Question(name, Kind.CNAME)
             if self._facts.answer(question) is Void.NO_NAME or (
@@ -252,12 +261,13 @@ class Gathering:
 
     def _shown(self) -> Facts:
         """The facts with the policy of the request in place of the one that DNS has."""
-        answer = self._facts.answer(self._text)
+        text = self._texts[0]
+        answer = self._facts.answer(text)
         if self._request.policy is None or not isinstance(answer, Alias | Data | Void):
             return self._facts
         if self._policy_answer is None:
             self._policy_answer = in_place(answer, self._request.policy, self._program)
-        return self._facts.replaced(self._text, self._policy_answer)
+        return self._facts.replaced(text, self._policy_answer)
 
 
 def _probe_name(name: Name) -> Name | None:

@@ -26,7 +26,7 @@ class KeptList:
 
 
 def read_list(text: str) -> KeptList | None:
-    """The list of a text, where its first line is that of a list. Whether the others are right is for spfc to say."""
+    """The list of a text whose first line is that of a list. spfc judges all other lines."""
     first, _, rest = text.partition("\n")
     found = _FIRST.fullmatch(first)
     if found is None:
@@ -37,7 +37,7 @@ def read_list(text: str) -> KeptList | None:
 
 
 def differences(old: KeptList, new: KeptList) -> Iterator[str]:
-    """A line for each question of either list that the other does not have, or has another answer to."""
+    """A line for each question that only one list has, or that the two answer differently."""
     for question in dict.fromkeys([*old.answers, *new.answers]):
         if question not in new.answers:
             yield f"not asked any more: {question}"
@@ -89,7 +89,7 @@ def joined_texts(answer: str) -> list[bytes]:
 
 
 def _item(item: str) -> str:
-    """A record: an address, a preference and a name, or strings in hexadecimal behind an x."""
+    """A record: an address, a preference and a name, or strings in hexadecimal after an x."""
     return presented_strings(_strings(item)) if _STRINGS.fullmatch(item) else item.replace("/", " ")
 
 
@@ -110,40 +110,40 @@ class _Leaf:
         return int(self.network.network_address)
 
     @property
-    def behind(self) -> int:
-        """The number behind the greatest address."""
+    def end(self) -> int:
+        """The number after the greatest address."""
         return self.first + self.network.num_addresses
 
 
 def _leaves(answer: str) -> list[_Leaf]:
-    """The networks of a list of addresses, which part those of a family; none where the answer is no such list."""
+    """The networks of a list of addresses, which divide those of a family; none if the answer is not such a list."""
     word, *items = answer.split(" ")
     parts = (item.rpartition("=") for item in items)
     try:
         leaves = [_Leaf(ipaddress.ip_network(network), _CLASSES.get(name, name)) for network, _, name in parts]
     except ValueError:
         return []
-    are_parting = all(one.behind == other.first for one, other in pairwise(leaves))
-    is_whole = leaves and (leaves[0].first, leaves[-1].behind) == (0, 1 << leaves[0].network.max_prefixlen)
+    are_parting = all(one.end == other.first for one, other in pairwise(leaves))
+    is_whole = leaves and (leaves[0].first, leaves[-1].end) == (0, 1 << leaves[0].network.max_prefixlen)
     return leaves if word == _REVERSED and are_parting and is_whole else []
 
 
 def _changed_parts(old: Sequence[_Leaf], new: Sequence[_Leaf]) -> Iterator[str]:
     """Each run of addresses that were one thing and are another."""
     runs: list[tuple[int, int, str, str]] = []
-    edges = sorted({edge for leaf in (*old, *new) for edge in (leaf.first, leaf.behind)})
+    edges = sorted({edge for leaf in (*old, *new) for edge in (leaf.first, leaf.end)})
     before, after = iter(old), iter(new)
     one, other = next(before), next(after)
-    for first, behind in pairwise(edges):
-        one = one if first < one.behind else next(before)
-        other = other if first < other.behind else next(after)
+    for first, end in pairwise(edges):
+        one = one if first < one.end else next(before)
+        other = other if first < other.end else next(after)
         if one.name != other.name:
             if runs and runs[-1][1:] == (first, one.name, other.name):
                 first = runs.pop()[0]
-            runs.append((first, behind, one.name, other.name))
+            runs.append((first, end, one.name, other.name))
     address = type(old[0].network.network_address)
-    for first, behind, was, is_now in runs:
-        yield f"{_counted(behind - first)} from {address(first)} on: {was} in the kept list, {is_now} today"
+    for first, end, was, is_now in runs:
+        yield f"{_counted(end - first)} from {address(first)} on: {was} in the kept list, {is_now} today"
 
 
 def _counted(count: int) -> str:
@@ -160,19 +160,23 @@ _FRESH = "fresh\n"
 
 
 class Watch:
-    """The kept list of a domain, in a file that need not be there yet."""
+    """The kept list of a domain, in a file that need not be there yet.
+
+    A file with anything else than a kept list ends the tool: it is not to be written over.
+    """
 
     def __init__(self, program: Program, path: Path, of_domain: str, words: Sequence[str]) -> None:
+        _judge(path)
         self._program = program
         self._path = path
         self._keep = ["keep", of_domain, *words]
-        self._beside = [word for word in words if "=" in word]
+        self._zones = [word for word in words if "=" in word]
 
     def changes(self, zone: str) -> list[str]:
         """A line for each question that is not answered as the list has it; or why the list does not count."""
         if not self._path.exists():
             return []
-        ended = self._program.over(["stale", str(self._path), *self._beside], zone)
+        ended = self._program.over(["stale", str(self._path), *self._zones], zone)
         if ended.status:
             return [_not_counted(ended.line)]
         old, new = read_list(self._path.read_text(encoding="latin-1")), self._list(zone)
@@ -197,6 +201,20 @@ class Watch:
         if found is None:
             raise Ending(Status.TOOL, "spfc keep wrote no list")
         return found
+
+
+def _judge(path: Path) -> None:
+    """Ends if the file cannot be read, or is not a kept list."""
+    if not path.exists():
+        return
+    if not path.is_file():
+        raise Ending(Status.USAGE, f"expected a kept list or a new file, got {path}, which is not a plain file")
+    try:
+        text = path.read_text(encoding="latin-1")
+    except OSError as error:
+        raise Ending(Status.TOOL, f"{path}: {error.strerror}") from error
+    if text and read_list(text) is None:
+        raise Ending(Status.USAGE, f"expected a kept list or a new file, got {path}, which is not a kept list")
 
 
 def _not_counted(why: str) -> str:

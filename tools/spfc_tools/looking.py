@@ -8,14 +8,19 @@ from spfc_tools.commands import NUMBERS, READING, Words
 from spfc_tools.kept_lists import changes, joined_texts, read_list
 from spfc_tools.program import USAGE, Asker, Program
 from spfc_tools.refusals import QUESTIONS, Line, read_line
-from spfc_tools.texts import presented
+from spfc_tools.texts import presented, why_no_policy
 
 
 def texts_at(name: str, domain: str, words: Sequence[str], zones: Sequence[str], program: Program) -> list[str]:
     """The SPF texts that the name has for the policy of the domain, as the program keeps them."""
+    texts = all_texts_at(name, domain, words, zones, program)
+    return [text.decode("latin-1") for text in texts if program.is_policy(presented(text))]
+
+
+def all_texts_at(name: str, domain: str, words: Sequence[str], zones: Sequence[str], program: Program) -> list[bytes]:
+    """All texts that the name has for the policy of the domain."""
     kept = read_list(program.run(["keep", domain, *words, *zones]).output)
-    answer = kept.answers.get(f"{name} TXT", "") if kept else ""
-    return [text.decode("latin-1") for text in joined_texts(answer) if program.is_policy(presented(text))]
+    return joined_texts(kept.answers.get(f"{name} TXT", "")) if kept else []
 
 
 _FIRST, _LATER = "; deps DOMAIN LOOKUPS VOIDS EXCHANGES", "NAME KIND ANSWER"
@@ -41,7 +46,7 @@ def look_stale(program: Program, path: Path, question: str, zones: Sequence[str]
 
 
 def look_bad(path: Path, number: int) -> Iterator[str]:
-    """What stands on a line of the list, and what is to stand there."""
+    """What a line of the list has, and what it should have."""
     lines = path.read_text(encoding="latin-1").split("\n")
     yield f"{number:5}: {lines[number - 1][:_SHOWN]}"
     if number == 1:
@@ -115,6 +120,8 @@ class Looker:
                 yield from self._outside()
             case "missing":
                 yield from self._missing(line)
+            case "norecord":
+                yield from self._nearly(line.words["NAME"])
 
     def _address(self, line: Line) -> str:
         return line.words.get("ADDRESS") or self._words.places[1]
@@ -142,7 +149,7 @@ class Looker:
         yield f"For {address} it takes more than {limits.most}."
 
     def _misspelled(self, name: str) -> Iterator[str]:
-        """The terms that break the grammar, each alone or behind those before it."""
+        """The terms that break the grammar, each alone or after those before it."""
         for text in self._texts(name):
             terms = text.split(" ")[1:]
             alone = [term for term in terms if term and self._asker.is_misspelled(f"v=spf1 {term}")]
@@ -173,6 +180,12 @@ class Looker:
             if target and "%" not in target:
                 outcome = self._asker.outcome(target.lower().removesuffix("."), self._address(line))
                 yield f"Asked for {target}, the files say: {outcome or 'no legal name'}"
+
+    def _nearly(self, name: str) -> Iterator[str]:
+        """The texts at the name that were meant to be a record, each with what is wrong with it."""
+        for text in all_texts_at(name, self._domain, self._words.reading, self._zones, self._program):
+            if why := why_no_policy(text):
+                yield f"This text of {name} is no SPF record, since {why}: {presented(text)}"
 
     def _texts(self, name: str) -> list[str]:
         """The SPF texts at the name."""
@@ -210,7 +223,7 @@ class Looker:
 
 
 def wrong_words(program: Program, given: list[str]) -> Iterator[str]:
-    """The words without which, or without which and the next, the others give a job."""
+    """The words that, taken out alone or with the next one, leave words that spfc takes."""
     for at in range(1, len(given)):
         for length in (1, 2):
             rest = given[:at] + given[at + length :]

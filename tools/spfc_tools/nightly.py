@@ -51,20 +51,21 @@ class Nightly:
         self._program = program
         self._domain = arguments.domain
         self._reading = command_line.spfc_options(arguments, READING)
-        self._beside = arguments.beside
-        self._compiling = [*self._reading, *command_line.spfc_options(arguments, _CUTTING), *self._beside]
+        self._zones = arguments.zones
+        self._compiling = [*self._reading, *command_line.spfc_options(arguments, _CUTTING), *self._zones]
         exchanges = command_line.number(arguments, "--exchanges")
-        self._request = Request(self._domain, self._reading, exchanges, beside=self._beside)
+        self._request = Request((self._domain,), self._reading, exchanges, zones=self._zones)
         self._policy = read_policy(arguments.policy, program)
         self._watch = None
         if arguments.kept is not None:
-            self._watch = Watch(program, arguments.kept, self._domain, [*self._reading, *self._beside])
+            self._watch = Watch(program, arguments.kept, self._domain, [*self._reading, *self._zones])
 
     def run(self) -> NightlyStatus:
         """Gathers what is published and what the policy says today, and compares their verdicts."""
         live = self._gathered(self._request)
         source = self._gathered(replace(self._request, policy=self._policy))
         live_zone, zone = live.world.zone(), source.world.zone()
+        command_line.warn(TOOL, self._program, self._domain, self._reading, self._zones, zone)
         wanted = self._compiled(_NOBODYS_LABEL, zone)
         if wanted.status:
             return self._refused(wanted, zone)
@@ -113,7 +114,7 @@ class Nightly:
         before = self._program.folder / "published"
         before.write_text(live, encoding="latin-1")
         policies = [self._domain, self._domain, *self._reading]
-        command = ["compare", *policies, *self._beside, f".={before}", "with", *self._beside]
+        command = ["compare", *policies, *self._zones, f".={before}", "with", *self._zones]
         ended = self._program.over(command, zone)
         lines = [line.split(" ") for line in ended.output.splitlines() if line.startswith("differ ")]
         return [Change(old, new, least, _number(least, count)) for _, old, new, least, count in lines]
@@ -174,12 +175,14 @@ def _parser() -> Parser:
 
 
 def _judge(program: Program, arguments: argparse.Namespace) -> None:
-    """Has the program say whether it takes the words, and whether it has the commands that they need."""
+    """Judges the files, and has the program say whether it takes the words and has the commands that they need."""
     reading = command_line.spfc_options(arguments, READING)
+    command_line.judge_files(arguments.output, (arguments.policy, arguments.kept), arguments.zones)
+    command_line.judge_files(arguments.kept, (arguments.policy,), arguments.zones)
     for label in arguments.labels:
         options = [*reading, *command_line.spfc_options(arguments, _CUTTING), "--label", label]
-        command_line.judge(program, ["compile", arguments.domain, *options, *arguments.beside])
-    if Request(arguments.domain, beside=arguments.beside).is_beside(read(arguments.domain)):
+        command_line.judge(program, ["compile", arguments.domain, *options, *arguments.zones])
+    if Request((arguments.domain,), zones=arguments.zones).is_in_a_file(read(arguments.domain)):
         raise Ending(
             NightlyStatus.USAGE, f"the zone of {arguments.domain} is not to be a file: DNS says what is published"
         )
@@ -191,6 +194,7 @@ def _judge(program: Program, arguments: argparse.Namespace) -> None:
             raise Ending(NightlyStatus.TOOL, f"{program.path} has no command {command}")
     if arguments.max_lost is not None and not program.knows("compare", arguments.domain, arguments.domain, *reading):
         raise Ending(NightlyStatus.TOOL, f"{program.path} has no command compare, which --max-lost needs")
+    command_line.judge_zones(program, arguments.domain, reading, arguments.zones)
 
 
 def _run(words: Sequence[str]) -> int:
@@ -198,8 +202,9 @@ def _run(words: Sequence[str]) -> int:
     arguments = command_line.parse(_parser(), words)
     with opened_program() as program:
         _judge(program, arguments)
+        night = Nightly(arguments, program)
         try:
-            return Nightly(arguments, program).run()
+            return night.run()
         except Ending as ending:
             if ending.status in (NightlyStatus.USAGE, NightlyStatus.UNWRITTEN):
                 raise

@@ -61,20 +61,24 @@ class Program:
 
     def over(self, words: Sequence[str], zone: str) -> Run:
         """Runs the program with these words, and with this text as the zone of the root."""
-        self._zone.write_text(zone, encoding="latin-1")
-        return self.run([*words, *self.zones()])
+        return self.run([*words, *self.zones_of(zone)])
 
-    def zones(self, beside: Sequence[str] = ()) -> list[str]:
-        """The zone words for that zone, behind those for others."""
-        return [*beside, f".={self._zone}"]
+    def zones_of(self, zone: str, others: Sequence[str] = ()) -> list[str]:
+        """The zone words for this text as the zone of the root, after those for others."""
+        self._zone.write_text(zone, encoding="latin-1")
+        return self.zones(others)
+
+    def zones(self, others: Sequence[str] = ()) -> list[str]:
+        """The zone words for others, and that for this zone."""
+        return [*others, f".={self._zone}"]
 
     def knows(self, command: str, *words: str) -> bool:
-        """Whether the program has this command, which takes these words in front of zones."""
+        """Whether the program has this command, which takes these words before its zone words."""
         return self.over([command, *words], "").status != USAGE
 
-    def questions(self, domain: str, reading: Sequence[str], zone: str, beside: Sequence[str] = ()) -> list[str]:
-        """The lines of `deps`: what the policy of the domain rests on over this zone and those beside it."""
-        ended = self.over(["deps", domain, *reading, *beside], zone)
+    def questions(self, domain: str, reading: Sequence[str], zone: str, others: Sequence[str] = ()) -> list[str]:
+        """The lines of `deps`: what the policy of the domain asks over this zone and others."""
+        ended = self.over(["deps", domain, *reading, *others], zone)
         if ended.status == USAGE:
             raise Ending(Status.USAGE, f"spfc deps does not take these words: {' '.join([domain, *reading])}")
         if ended.status:
@@ -95,7 +99,7 @@ def opened_program() -> Iterator[Program]:
 
 
 _OTHER_FAMILY = {"REVERSE4": "ip6:::/0", "REVERSE6": "ip4:0.0.0.0/0"}
-"""For a question of reversed addresses, a term that all addresses of the other family match."""
+"""For a question of reversed addresses, a term that matches all addresses of the family that is not asked for."""
 _TERMS = {
     "A": "exists:",
     "AAAA": "a:",
@@ -104,7 +108,7 @@ _TERMS = {
     "REVERSE4": "exists:%{ir}.",
     "REVERSE6": "exists:%{ir}.",
 }
-"""Terms that ask a question of each kind of the name behind them."""
+"""For each kind of question, the beginning of a term that asks it of the name at its end."""
 
 
 class Asker:
@@ -141,20 +145,20 @@ class Asker:
         """The kept list of a record that asks this question."""
         name, _, kind = question.rpartition(" ")
         term = _TERMS[kind] + name.replace("%", "%%")
-        return self.program.run(["keep", _TRIED, *self._reading, *self._beside(f"v=spf1 {term}")]).output
+        return self.program.run(["keep", _TRIED, *self._reading, *self._with_record(f"v=spf1 {term}")]).output
 
     def _outcomes(self, text: str) -> list[str]:
-        """What check_host says of a record of this text beside the zones, for an address of each family."""
-        words = [*self._reading, *self._beside(text)]
+        """What check_host says of a record of this text, for an address of each family."""
+        words = [*self._reading, *self._with_record(text)]
         lines = (self.program.run(["check", _TRIED, address, *words]) for address in _ADDRESSES)
         return [line.output.rstrip("\n") for line in lines]
 
     def _compiled(self, text: str) -> str:
-        """The line with which `compile` ends for a record of this text beside the zones."""
-        return self.program.run(["compile", _TRIED, *self._reading, *self._beside(text)]).line
+        """The line with which `compile` ends for a record of this text."""
+        return self.program.run(["compile", _TRIED, *self._reading, *self._with_record(text)]).line
 
-    def _beside(self, text: str) -> list[str]:
-        """The zones, with a record of this text beside them."""
+    def _with_record(self, text: str) -> list[str]:
+        """The zones, and one with a record of this text."""
         tiny = self.program.folder / "tiny"
         tiny.write_text(f"@ IN TXT {presented(text.encode('latin-1'))}\n", encoding="latin-1")
         return [*self._zones, f"{_TRIED}={tiny}"]

@@ -17,6 +17,8 @@ from spfc_tools import names
 from spfc_tools.facts import Alias, Answer, Data, Failure, Kind, Question, Void
 
 ANSWERED = (dns.rcode.NOERROR, dns.rcode.NXDOMAIN)
+_OF_ALIASES = (dns.rdatatype.CNAME, dns.rdatatype.DNAME, dns.rdatatype.RRSIG)
+"""The types of records that may come with NXDOMAIN: those of the aliases that lead to a name that does not exist."""
 
 
 def read_reply(question: Question, reply: dns.message.Message) -> Iterator[tuple[Question, Answer]]:
@@ -30,6 +32,9 @@ def read_reply(question: Question, reply: dns.message.Message) -> Iterator[tuple
     if reply.flags & dns.flags.TC:
         yield question, Failure("truncated")
         return
+    if contradicts_itself(reply):
+        yield question, Failure("NXDOMAIN, but with records")
+        return
     end, aliases = question, _aliases(reply)
     is_alias = question.name in aliases
     while alias := aliases.pop(end.name, None):
@@ -39,6 +44,12 @@ def read_reply(question: Question, reply: dns.message.Message) -> Iterator[tuple
         yield end, Data(items)
     elif not is_alias:
         yield end, _without_data(reply)
+
+
+def contradicts_itself(reply: dns.message.Message) -> bool:
+    """Whether the reply says that a name does not exist, and has records other than aliases and signatures."""
+    has_data = any(records.rdtype not in _OF_ALIASES for records in reply.answer)
+    return reply.rcode() == dns.rcode.NXDOMAIN and has_data
 
 
 def has_alias(reply: dns.message.Message, name: Name) -> bool:

@@ -18,12 +18,15 @@ from dns.name import Name
 from spfc_tools import names
 from spfc_tools.exit_statuses import Ending, Status
 from spfc_tools.facts import Answer, Failure, Kind, Question
-from spfc_tools.replies import ANSWERED, has_alias, read_reply
+from spfc_tools.replies import ANSWERED, contradicts_itself, has_alias, read_reply
 
 _PAUSE = 1.0
 """Seconds between two tries of one question."""
 _PAYLOAD = 1232
 """Octets of a reply over UDP that is not cut on its way; a longer one comes over TCP."""
+
+NO_REPLY = "no reply"
+"""Why a question failed that no server replied to."""
 
 _LOG = logging.getLogger(__name__)
 
@@ -56,16 +59,17 @@ class Resolver:
     def ask_all(self, questions: Iterable[Question], tell: Callable[[int, Question], None]) -> Learned:
         """Asks all, some at a time, and gives what was learned in the order of the questions."""
         learned: Learned = []
-        with ThreadPoolExecutor(self.at_once) as pool:
-            try:
-                asked = [(question, pool.submit(self.ask, question)) for question in questions]
-                for number, (question, answer) in enumerate(asked):
-                    tell(number, question)
-                    learned += answer.result()
-            except BaseException:
-                self._stopped.set()
-                pool.shutdown(wait=False, cancel_futures=True)
-                raise
+        pool = ThreadPoolExecutor(self.at_once)
+        try:
+            asked = [(question, pool.submit(self.ask, question)) for question in questions]
+            for number, (question, answer) in enumerate(asked):
+                tell(number, question)
+                learned += answer.result()
+        except BaseException:
+            self._stopped.set()
+            raise
+        finally:
+            pool.shutdown(wait=False, cancel_futures=True)
         return learned
 
     def ask(self, question: Question) -> Learned:
@@ -79,7 +83,7 @@ class Resolver:
 
     def reply(self, name: Name, kind: str) -> dns.message.Message | Failure:
         """The reply to a question for records of any type, asked anew where it fails."""
-        reply: dns.message.Message | Failure = Failure("no reply")
+        reply: dns.message.Message | Failure = Failure(NO_REPLY)
         for server in self._attempts():
             reply = self._exchange(name, kind, server)
             if isinstance(reply, dns.message.Message) and reply.rcode() in ANSWERED:
@@ -106,7 +110,8 @@ class Resolver:
             if not isinstance(step, Failure) and has_alias(step, question.name):
                 return list(read_reply(question, step)), True
         is_refused = reply.rcode() == dns.rcode.REFUSED and len(self.servers) == 1
-        return list(read_reply(question, reply)), is_refused or reply.rcode() in ANSWERED
+        is_answered = reply.rcode() in ANSWERED and not contradicts_itself(reply)
+        return list(read_reply(question, reply)), is_refused or is_answered
 
     def _exchange(self, name: Name, kind: str, server: str) -> dns.message.Message | Failure:
         """A query and its reply, over TCP where UDP has no room for it."""
@@ -122,7 +127,7 @@ class Resolver:
         try:
             return dns.query.udp_with_fallback(query, server, self.seconds, self.port, ignore_unexpected=True)[0]
         except (dns.exception.Timeout, OSError, EOFError):
-            return Failure("no reply")
+            return Failure(NO_REPLY)
         except dns.exception.DNSException:
             return Failure("malformed reply")
 

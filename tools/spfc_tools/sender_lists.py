@@ -1,4 +1,4 @@
-"""Lists of senders by address: all that stands at and below a name, in place of a question for each address."""
+"""Lists of senders by address: all that is at and below a name, in place of a question for each address."""
 
 from collections.abc import Callable, Iterator, Sequence
 from functools import cache
@@ -19,7 +19,7 @@ _LABELS = {
 
 
 def answers_for_some(owner: Name, question: Question) -> bool:
-    """Whether what stands at a name answers for some address: it is the reversed name of one, or a wildcard above."""
+    """Whether a name answers for some address: it is the reversed name of one, or a wildcard above."""
     most, _ = _LABELS[question.kind]
     labels = _in_front(owner, question)
     if labels[:1] == (WILDCARD,):
@@ -35,7 +35,7 @@ def leads_to_some(name: Name, question: Question) -> bool:
 
 
 def _in_front(name: Name, question: Question) -> tuple[bytes, ...]:
-    """The labels of a name in front of that of the list."""
+    """The labels of a name before those of the list."""
     return name.labels[: len(name.labels) - len(question.name.labels)]
 
 
@@ -47,12 +47,12 @@ def _are_of_address(labels: tuple[bytes, ...], kind: Kind) -> bool:
 class Lists:
     """Has the zones of lists transferred: nobody can ask for each address.
 
-    What lies at or below the origin of a zone that is read beside the file is left to that zone.
+    What is at or below the origin of a zone that comes from a file is left to that file.
     """
 
-    def __init__(self, transfers: Transfers, is_beside: Callable[[Name], bool]) -> None:
+    def __init__(self, transfers: Transfers, is_in_a_file: Callable[[Name], bool]) -> None:
         self._transfers = transfers
-        self._is_beside = is_beside
+        self._is_in_a_file = is_in_a_file
 
     def ask(self, question: Question) -> Learned:
         """The list, and what its names are answered for A; or why they are not known."""
@@ -73,7 +73,7 @@ class Lists:
         return zone
 
     def _standing(self, zone: Contents, top: Name, question: Question) -> dict[Name, Answer | None]:
-        """What stands at and below a name in its zone, and in those to which this delegates names of addresses.
+        """What is at and below a name in its zone, and in those to which this delegates names of addresses.
 
         What a name is answered that is delegated, and below which no address is asked for, is not known.
         """
@@ -85,7 +85,7 @@ class Lists:
             if name.is_subdomain(top) and not _is_cut_off(name, top, cuts)
         }
         for cut in cuts:
-            if self._is_beside(cut) or _is_cut_off(cut.parent(), top, cuts):
+            if self._is_in_a_file(cut) or _is_cut_off(cut.parent(), top, cuts):
                 continue
             found[cut] = None
             if leads_to_some(cut, question):
@@ -101,7 +101,7 @@ class Lists:
                 raise NotGiven(zone.origin, f"{why}, to be written out")
 
 
-def targets_beside(words: Sequence[str], question: Question) -> Iterator[Name]:
+def targets_in_files(words: Sequence[str], question: Question) -> Iterator[Name]:
     """What the names of addresses lead to in the zones of some zone words."""
     for word in words:
         origin = names.read(word.partition("=")[0])
@@ -126,7 +126,7 @@ def _is_cut_off(name: Name, top: Name, cuts: set[Name]) -> bool:
 
 
 def _of_wildcard(zone: Contents, top: Name) -> dict[Name, Answer | None]:
-    """What stands below a name that does not exist: what the wildcard for it says (RFC 4592), or nothing."""
+    """What is below a name that does not exist: what the wildcard for it says (RFC 4592), or nothing."""
     existing = {upper for name in zone.answers for upper in names.with_ancestors(name)}
     closest = next(upper for upper in names.with_ancestors(top) if upper in existing)
     answer = zone.answers.get(Name((names.WILDCARD, *closest.labels)))

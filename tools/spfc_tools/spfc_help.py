@@ -38,12 +38,12 @@ def of_command(name: str) -> str | None:
     lines = [f"spfc {command.synopsis(name)}", f"    {command.purpose}"]
     lines += [f"  {place:13} {_PLACES[place]}" for place in dict.fromkeys(command.places) if place in _PLACES]
     lines += _options(command.options)
-    if command.behind:
+    if command.zones:
         lines.append(
             "  ORIGIN=FILE   FILE is the master file of the zone at ORIGIN; 1 to 64 such words, of different origins"
         )
-    if WITH in command.behind:
-        lines.append(f"  {WITH:13} the second policy is read over the zones behind it, or else over the same ones")
+    if WITH in command.zones:
+        lines.append(f"  {WITH:13} the second policy is read over the zones after it, or else over the same ones")
     return "\n".join(lines) + "\n"
 
 

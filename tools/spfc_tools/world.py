@@ -116,7 +116,7 @@ class World:
         return {end.name for end in ends if self._facts.answer(end) is Void.NO_NAME}
 
     def is_mixed(self, name: Name) -> bool:
-        """Whether the name is an alias for some kinds of records, and has others or another target besides."""
+        """Whether the name is an alias for some types, and has records or another target for other types."""
         answers = {kind: self._facts.answer(Question(name, kind)) for kind in self._kinds.get(name, ())}
         targets = {answer.target for answer in answers.values() if isinstance(answer, Alias)}
         others = any(isinstance(answer, Data | Void) for kind, answer in answers.items() if kind is not Kind.CNAME)
@@ -130,7 +130,7 @@ class World:
             if self.is_mixed(step.name):
                 if chain.is_round:
                     raise Ending(Status.CONTRADICTION, f"contradiction: {step} goes round, and has other records")
-                self._put(step, _beside_others(self._facts.answer(chain.end)))
+                self._put(step, _next_to_others(self._facts.answer(chain.end)))
                 return
             self._put(step, answer)
 
@@ -166,6 +166,6 @@ class World:
         return Name((names.WILDCARD, *closest.labels))
 
 
-def _beside_others(answer: Answer | None) -> Answer | None:
-    """What is written of an answer at a name that has other records: no alias may stand beside them."""
+def _next_to_others(answer: Answer | None) -> Answer | None:
+    """What is written of an answer at a name that has other records: no alias may be next to them."""
     return Void.NO_DATA if isinstance(answer, Alias) else answer

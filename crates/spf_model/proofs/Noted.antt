@@ -1,12 +1,11 @@
 -- The questions of a part that began with none, added to those asked before.
-use Rattle.std.proofs.Common.{◌≡◌, ℕ, ◌<◌, List, [], ◌++◌, Result, Ok, Err, IfOk, inl, inr, Contains, sym, subst, arith}
+use Rattle.std.proofs.Common.{List, [], ◌++◌, Result, Ok, Err, IfOk, inl, inr, sym, subst, arith}
 use Rattle.std.proofs.lemmas.List.Elements.{Contains-append_left, Contains-append_right, Contains-append_cases}
 use Rattle.zone_answers.specs.declared.answer.Question.{Question}
-use Rattle.spf_model.specs.declared.outcome.Outcome.{Outcome}
 use Rattle.spf_model.specs.declared.outcome.Halt.{Halt}
 use Rattle.spf_model.specs.declared.outcome.Halt.TheVariants.{Ended, Memory}
-use Rattle.spf_model.specs.Run.{Run, Ends, Answering, AnsweringEach}
-use Rattle.spf_model.specs.Settling.{PartOf, Passes, Stops, Adds, Settles, SettlesEach, Follows, IsNoted}
+use Rattle.spf_model.specs.Run.{Run, Answering, AnsweringEach}
+use Rattle.spf_model.specs.Settling.{PartOf, Adds, Settles, SettlesEach, Follows, IsNoted}
 use Rattle.spf_model.proofs.Following.{follows_more}
 
 follows_after : (zones : Answering) (asked added : List Question) (run rest : Run) → Follows zones added run rest → Follows zones (asked ++ added) run rest
