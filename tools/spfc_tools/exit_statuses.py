@@ -67,7 +67,7 @@ class PublishStatus(ExitStatus):
         "published, and every server gives each address its verdict; or the plan is printed, or the names are out",
     )
     REFUSED = 1, "refused before anything was changed"
-    PARTLY = 2, "changed in part: the lines say what stands and what to do"
+    PARTLY = 2, "changed in part: the lines say what is there now and what to do"
     NO_ANSWER = 3, "a server does not answer"
     USAGE = Status.USAGE, Status.USAGE.meaning
     TOOL = Status.TOOL, Status.TOOL.meaning

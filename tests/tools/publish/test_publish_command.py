@@ -19,7 +19,7 @@ from workplace import Ended, Workplace
 
 from spfc_tools.publish.key_file import read_key
 
-pytestmark = [pytest.mark.slow, pytest.mark.needs("servers")]
+pytestmark = [pytest.mark.slow, pytest.mark.needs("servers"), pytest.mark.needs("publishing")]
 _OLD = "v=spf1 ip4:192.0.2.1 -all"
 
 

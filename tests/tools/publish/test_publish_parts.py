@@ -220,7 +220,7 @@ def test_a_file_that_is_no_state(tmp_path: Path, text: str) -> None:
     path = write(tmp_path / "state", text)
     with pytest.raises(Ending) as found:
         Store(path).load(DOMAIN)
-    assert found.value.lines == (f"{path} is no state file of spfc-publish: it is left as it is",)
+    assert found.value.lines == (f"{path} is not a state file of spfc-publish: it is left as it is",)
     assert path.read_text() == text
 
 

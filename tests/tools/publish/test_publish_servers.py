@@ -8,7 +8,7 @@ from policies import ADDRESSES, TEXTS, Policy, policy, presented
 from publish_servers import DOMAIN, SITE, TOKEN, WAYS, Publisher, receiver, zone_text
 from workplace import Ended, Workplace
 
-pytestmark = [pytest.mark.slow, pytest.mark.needs("servers")]
+pytestmark = [pytest.mark.slow, pytest.mark.needs("servers"), pytest.mark.needs("publishing")]
 
 
 def publish(workplace: Workplace, publisher: Publisher, *words: str) -> Ended:

@@ -47,6 +47,11 @@ def chain(label: str) -> Published:
 OLD, NEW = chain("_spfa"), chain("_spfb")
 
 
+def unchanged(text: Text) -> Text:
+    """What a server publishes that does as it is told."""
+    return text
+
+
 @dataclass
 class World:
     """A server in memory: it is a way too, and keeps count of all that is done."""
@@ -56,7 +61,7 @@ class World:
     done: list[str] = field(default_factory=list)
     points: int = 0
     killed_at: int = 0
-    published: Callable[[Text], Text] = staticmethod(lambda text: text)
+    published: Callable[[Text], Text] = unchanged
     fault: Exception | None = None
     is_deaf: bool = False
 
@@ -237,7 +242,7 @@ def test_a_lost_replacement(tmp_path: Path) -> None:
     assert ended.status is PublishStatus.PARTLY
     assert ended.lines[0].startswith("not replaced after 0 seconds: ns (192.0.2.53) has at example.com")
     assert ended.lines[1] == (
-        "what stands: no new record at example.com, and of the chain _spfb1.example.com _spfb2.example.com"
+        "there now: no new record at example.com, and of the chain _spfb1.example.com _spfb2.example.com"
     )
     world.is_deaf = False
     finish(world, tmp_path / "state")

@@ -308,8 +308,8 @@ def _parser() -> Parser:
 def _parsed(words: Sequence[str]) -> argparse.Namespace:
     parser = _parser()
     arguments = command_line.parse(parser, _joined(words))
-    fragments = [word for word in arguments.beside if "=" not in word]
-    arguments.zones = tuple(word for word in arguments.beside if "=" in word)
+    fragments = [word for word in arguments.zones if "=" not in word]
+    arguments.zones = tuple(word for word in arguments.zones if "=" in word)
     if len(fragments) > 1:
         parser.error(f"expected one FRAGMENT, got {' '.join(fragments)}")
     arguments.fragment = Path(fragments[0]) if fragments else None

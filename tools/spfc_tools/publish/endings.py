@@ -9,7 +9,7 @@ def refused(*lines: str) -> Ending:
 
 
 def partly(*lines: str) -> Ending:
-    """An end in the middle, with what stands and what to do."""
+    """An end in the middle, with what is there now and what to do."""
     return Ending(PublishStatus.PARTLY, *lines)
 
 

@@ -1,4 +1,4 @@
-"""What spfc itself says before and after a publication: of the fragment, of what is published, and of both together."""
+"""What spfc itself says before and after a publication: of the fragment, of the published records, and of both."""
 
 from __future__ import annotations
 
@@ -20,7 +20,7 @@ from spfc_tools.publish.steps import Observer, Sight, shown
 from spfc_tools.resolving import Resolver
 
 _NO_CHAIN = ("no zone", "no chain")
-"""How the lines of `verify` begin that say that a file is no chain of records."""
+"""How the lines of `verify` begin for a file that has other records than a chain."""
 _MOST_NAMES = 64
 _EQUAL = "equal"
 
@@ -53,9 +53,9 @@ class Judge:
             raise refused(ended.line, advice, "--policy FILE names the text of the policy that it was compiled from")
 
     def gathered(self, resolver: Resolver, policy: Path | None) -> tuple[str, ...]:
-        """The policy in the DNS, or the text of a file in its place, with all that it rests on: as zone words."""
+        """The policy in the DNS, or the text of a file in its place, with all that it depends on: as zone words."""
         text = read_policy(policy, self.program) if policy else None
-        zone = self._gather(Request(self._word, self.reading, self.exchanges, policy=text), resolver)
+        zone = self._gather(Request((self._word,), self.reading, self.exchanges, policy=text), resolver)
         path = self.program.folder / "policy"
         path.write_text(zone, encoding="latin-1")
         return (f".={path}",)
@@ -70,7 +70,7 @@ class Judge:
         finally:
             self.progress.clear()
 
-    # ------------------------------------------------------------- what is published
+    # ------------------------------------------------------------- the published records
 
     def published(self, observer: Observer) -> tuple[Published, list[Sight]]:
         """What the domain publishes now, by every server: its SPF record, and the chain to which it leads."""
@@ -118,7 +118,7 @@ class Judge:
     # ------------------------------------------------------------- both together
 
     def difference(self, authority: Authority, target: Published) -> str | None:
-        """What some server says otherwise than the records that are to be published; None where all say the same."""
+        """What some server says otherwise than the new records; None if all say the same."""
         path = self.program.folder / "target"
         path.write_text(target.zone, encoding="latin-1")
         for server in authority.servers:
@@ -129,7 +129,7 @@ class Judge:
     def _difference(self, server: Server, authority: Authority, target: Path) -> str | None:
         resolver = Resolver((server.address,), server.port, authority.tries, authority.seconds, are_named=True)
         try:
-            zone = self._gather(Request(self._word, self.reading, self.exchanges), resolver)
+            zone = self._gather(Request((self._word,), self.reading, self.exchanges), resolver)
         except Ending as ending:
             return "; ".join(ending.lines)
         before = self.program.folder / "shown"

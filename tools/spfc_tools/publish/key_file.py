@@ -73,6 +73,6 @@ def refuse_open(path: Path) -> None:
     except OSError as error:
         raise refused(f"{path}: {error.strerror}") from error
     if not stat.S_ISREG(mode):
-        raise refused(f"{path} is no plain file")
+        raise refused(f"{path} is not a plain file")
     if mode & (stat.S_IRWXG | stat.S_IRWXO):
         raise refused(f"{path} can be read by others than its owner: chmod 600 {path}")

@@ -162,7 +162,7 @@ class MasterFile:
         self._command = command
 
     def add(self, record: TextRecord) -> None:
-        """Writes a record at the end, if there is no TXT record at its name."""
+        """Writes a record at the end, if its name has no TXT record."""
         source = _Source(self._path, self._zone)
         if source.texts(record.name):
             raise WayOvertaken(f"{self._path} has a TXT record at {names.printed(record.name)}")
@@ -218,7 +218,7 @@ class _Source:
         except OSError as error:
             raise WayRefused(f"{path}: {error.strerror}") from error
         except (dns.exception.DNSException, ValueError) as error:
-            raise WayRefused(f"{path} is no master file: {error}") from error
+            raise WayRefused(f"{path} is not a master file: {error}") from error
 
     def texts(self, name: Name) -> list[Entry]:
         """The TXT records at a name."""
@@ -230,7 +230,7 @@ class _Source:
         return Edit(end, end, f"{'' if self._text.endswith(chr(10)) or not end else chr(10)}{record}\n")
 
     def without(self, entry: Entry) -> list[Edit]:
-        """The file without an entry, whose owner the next one is given where it has none of its own."""
+        """The file without an entry, whose owner the next one gets if it has none written."""
         edits = [Edit(entry.start, entry.end, "")]
         following = self._entries[self._entries.index(entry) + 1 :]
         if entry.has_owner and following and not following[0].has_owner:
@@ -260,15 +260,15 @@ class _Source:
             raise WayRefused(f"{self._path} could not be written: {error.strerror}") from error
 
     def _rename(self, text: str) -> None:
-        descriptor, beside = tempfile.mkstemp(prefix=f".{self._path.name}.", dir=self._path.parent)
+        descriptor, temporary = tempfile.mkstemp(prefix=f".{self._path.name}.", dir=self._path.parent)
         try:
             with open(descriptor, "wb") as file:
                 file.write(text.encode("latin-1"))
                 file.flush()
                 os.fsync(file.fileno())
-            shutil.copymode(self._path, beside)
+            shutil.copymode(self._path, temporary)
             if (os.geteuid(), os.getegid()) != (self._stat.st_uid, self._stat.st_gid):
-                os.chown(beside, self._stat.st_uid, self._stat.st_gid)
+                os.chown(temporary, self._stat.st_uid, self._stat.st_gid)
             now = self._path.stat()
             if (now.st_ino, now.st_mtime_ns, now.st_size) != (
                 self._stat.st_ino,
@@ -276,9 +276,9 @@ class _Source:
                 self._stat.st_size,
             ):
                 raise WayOvertaken(f"{self._path} was changed while it was read")
-            os.replace(beside, self._path)
+            os.replace(temporary, self._path)
         except BaseException:
-            os.unlink(beside)
+            os.unlink(temporary)
             raise
 
 

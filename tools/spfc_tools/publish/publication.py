@@ -146,7 +146,7 @@ class Publication:
     # ------------------------------------------------------------- what is taken out
 
     def sweep(self, *, may_wait: bool) -> list[Name]:
-        """Takes out the records that are no longer of use, as far as their time has come: the names."""
+        """Takes out the records of old chains, as far as their time has come, and returns the names."""
         swept: list[Name] = []
         for leftover in self.state.leftovers:
             if leftover.not_before > time.time():
@@ -236,14 +236,14 @@ class Publication:
 
     def _advice(self) -> list[str]:
         chain = " ".join(map(names.printed, self._move.target.names)) or "no other record"
-        return [f"what stands: the record before, and {chain}", "call again, or with --undo"]
+        return [f"there now: the old record, and {chain}", "call again, or with --undo"]
 
     def _stopped(self, line: str) -> Ending:
-        """The end at what was seen, with what stands."""
+        """The end at what was seen, with what is there now."""
         try:
             sights = self._observer.look(self._names())
         except Ending:
-            return no_answer(line, "what stands is not known: call again, or with --undo")
+            return no_answer(line, "what is there now is not known: call again, or with --undo")
         move = self._move
         is_new = any(move.target.text in sight.policies for sight in sights if move.target.text)
         added = [
@@ -255,7 +255,7 @@ class Publication:
         chain = " ".join(map(names.printed, added)) or "none"
         return partly(
             line,
-            f"what stands: {at_domain} at {self._domain}, and of the chain {chain}",
+            f"there now: {at_domain} at {self._domain}, and of the chain {chain}",
             "call again, or with --undo",
         )
 

@@ -69,7 +69,7 @@ class TextRecord:
 
 @dataclass(frozen=True)
 class Published:
-    """The SPF record of a domain, if it has one, and the records of the chain behind it."""
+    """The SPF record of a domain, if it has one, and the records of the chain after it."""
 
     domain: Name
     record: TextRecord | None
@@ -110,7 +110,7 @@ def read_fragment(path: Path, domain: Name) -> Published:
     except OSError as error:
         raise refused(f"{path}: {error.strerror}") from error
     except (dns.exception.DNSException, ValueError) as error:
-        raise refused(f"{path} is no master file of {names.printed(domain)}: {error}") from error
+        raise refused(f"{path} is not a master file of {names.printed(domain)}: {error}") from error
     records = []
     for name, rdataset in zone.iterate_rdatasets():
         if rdataset.rdtype != dns.rdatatype.TXT or len(rdataset) != 1:

@@ -59,7 +59,7 @@ class Move:
 
 @dataclass(frozen=True)
 class Leftover:
-    """Records that are no longer of use, and the time from which they may be taken out."""
+    """Records of an old chain, and the time from which they may be taken out."""
 
     records: tuple[TextRecord, ...]
     not_before: float
@@ -97,7 +97,7 @@ class Store:
         try:
             state = _state(json.loads(text))
         except (ValueError, KeyError, TypeError, AttributeError) as error:
-            raise refused(f"{self.path} is no state file of spfc-publish: it is left as it is") from error
+            raise refused(f"{self.path} is not a state file of spfc-publish: it is left as it is") from error
         if state.domain != domain:
             raise refused(f"{self.path} is the state of {names.printed(state.domain)}: name another by --state")
         return state
@@ -106,15 +106,15 @@ class Store:
         """Writes the state, and gives it back."""
         text = json.dumps(_written(state), indent=1) + "\n"
         try:
-            descriptor, beside = tempfile.mkstemp(prefix=f".{self.path.name}.", dir=self.path.parent)
+            descriptor, temporary = tempfile.mkstemp(prefix=f".{self.path.name}.", dir=self.path.parent)
             try:
                 with open(descriptor, "w", encoding="utf-8") as file:
                     file.write(text)
                     file.flush()
                     os.fsync(file.fileno())
-                os.replace(beside, self.path)
+                os.replace(temporary, self.path)
             except BaseException:
-                os.unlink(beside)
+                os.unlink(temporary)
                 raise
         except OSError as error:
             raise Ending(PublishStatus.UNWRITTEN, f"{self.path} could not be written: {error.strerror}") from error

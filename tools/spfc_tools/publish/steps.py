@@ -1,4 +1,4 @@
-"""The steps of a publication, as data: what every server may show before each, and what it has to show after it."""
+"""The steps of a publication, as data: what every server may show before each, and what it must show after it."""
 
 from __future__ import annotations
 

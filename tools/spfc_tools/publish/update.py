@@ -39,7 +39,7 @@ class Update:
     seconds: float = 10.0
 
     def add(self, record: TextRecord) -> None:
-        """Adds a record, if there is no TXT record at its name."""
+        """Adds a record, if its name has no TXT record."""
         message = self._message()
         message.absent(record.name, "TXT")
         message.add(record.name, record.ttl, record.text.rdata)

@@ -15,7 +15,7 @@ class WayRefused(Exception):
 
 
 class WayOvertaken(Exception):
-    """What stands there is not what the change was made for; nothing was changed."""
+    """The records are not those that the change was made for; nothing was changed."""
 
 
 class WayUnsure(Exception):
@@ -47,7 +47,7 @@ class Way(Protocol):
         """Adds a record at a name that has no TXT record."""
 
     def replace(self, change: Replacement) -> None:
-        """Puts one SPF record in the place of another in one step, if the other is the one that is there."""
+        """Replaces the old SPF record by the new one in one step, if the old one is there."""
 
     def remove(self, record: TextRecord) -> None:
-        """Takes one record away, and leaves what else stands at its name."""
+        """Takes one record away, and leaves the rest at its name."""
