@@ -1,13 +1,15 @@
 """spfc-explain of the tools' own lines, of wrong words, and of texts that nearly are SPF records."""
 
+import ast
 import re
+from collections.abc import Iterator
 
 import pytest
 from servers import Server, free_port
 from spfc_tools.commands import COMMANDS
 from spfc_tools.texts import why_no_policy
-from spfc_tools.tool_lines import TOOL_LINES, read_tool_line
-from workplace import Ended, Workplace
+from spfc_tools.tool_lines import PUBLISH_LINES, TOOL_LINES, read_tool_line
+from workplace import TOP, Ended, Workplace
 
 _SAMPLES = {
     "NAME": "a.example.com",
@@ -33,13 +35,13 @@ def _sample(form: str) -> str:
 # ------------------------------------------------------------- lines of the tools
 
 
-@pytest.mark.parametrize("form", TOOL_LINES)
+@pytest.mark.parametrize("form", [*TOOL_LINES, *PUBLISH_LINES])
 def test_form(form: str) -> None:
     """Each form of the table is read as itself, with and without the name of a tool."""
     for prefix in ("", "spfc-gather: ", "spfc-nightly: warning: "):
         line = read_tool_line(prefix + _sample(form))
         assert line is not None
-        assert line.entry == TOOL_LINES[form].plain
+        assert line.entry == {**TOOL_LINES, **PUBLISH_LINES}[form].plain
 
 
 @pytest.mark.parametrize(
@@ -200,3 +202,39 @@ def test_server_that_never_replies(workplace: Workplace) -> None:
     port = str(free_port())
     ended = workplace.tool("spfc-gather", "corp.test", "@127.0.0.1", "-p", port, "--tries", "1", "--time", "1")
     assert ended == Ended(1, "", f"spfc-gather: no reply from 127.0.0.1 port {port}")
+
+
+# ------------------------------------------------------------- every message of the tools
+
+_ENDINGS = ("Ending", "error", "refused", "partly", "no_answer", "usage")
+"""The calls that end a tool with lines, in the modules of the tools."""
+
+
+def _messages() -> Iterator[tuple[str, str]]:
+    """Each message in the source of the tools, with its module: what is computed in it is left as `{}`."""
+    package = TOP / "tools/spfc_tools"
+    for module in sorted(package.rglob("*.py")):
+        for node in ast.walk(ast.parse(module.read_text())):
+            if isinstance(node, ast.Call) and _name_of(node.func) in _ENDINGS:
+                yield from ((module.name, text) for argument in node.args if (text := _text_of(argument)))
+
+
+def _name_of(function: ast.expr) -> str:
+    return function.attr if isinstance(function, ast.Attribute) else getattr(function, "id", "")
+
+
+def _text_of(argument: ast.expr) -> str:
+    """The text of a message, empty for what is none."""
+    if isinstance(argument, ast.Constant) and isinstance(argument.value, str):
+        return argument.value
+    if isinstance(argument, ast.JoinedStr):
+        text = "".join(str(part.value) if isinstance(part, ast.Constant) else "{}" for part in argument.values)
+        return "" if not text.replace("{}", "").strip(": ") else text
+    return ""
+
+
+@pytest.mark.parametrize(("module", "message"), dict.fromkeys(_messages()))
+def test_every_message_is_known(module: str, message: str) -> None:
+    """No message with which a tool ends is missing in the table."""
+    samples = ("7", "a.example.com", "spfc: A", "deps", ": it", "A")
+    assert any(read_tool_line(message.replace("{}", sample)) for sample in samples), f"{module}: {message}"

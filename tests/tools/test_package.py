@@ -209,6 +209,19 @@ def test_modules_of_the_package(installed: Workplace) -> None:
 
 
 @pytest.mark.needs("package")
+def test_links_of_the_package(installed: Workplace) -> None:
+    """Each link of an installed document, and each document that a man page names, is there."""
+    root = installed.folder / "root"
+    documents = [*(root / "usr/share/doc/spfc").rglob("*.md")]
+    targets = [(file, found) for file in documents for found in re.findall(r"\]\(([^)#:\s]+)", file.read_text())]
+    assert [(file.name, target) for file, target in targets if not (file.parent / target).exists()] == []
+    pages = "".join(page.read_text() for page in (TOP / "packaging/man").glob("*.1"))
+    named = re.findall(r"Pa (/usr/share/doc/spfc\S*)", pages)
+    assert (len(documents) > 8, len(targets) > 8, len(named) > 1) == (True, True, True)
+    assert [path for path in named if not (root / path.rstrip(".,").removeprefix("/")).exists()] == []
+
+
+@pytest.mark.needs("package")
 def test_refusal_at_a_terminal(installed: Workplace) -> None:
     """At a terminal bin/spfc names the command that explains a refusal."""
     command = [str(installed.bin / "spfc"), "check", "x"]
