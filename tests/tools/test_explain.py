@@ -12,6 +12,7 @@ from pathlib import Path
 from types import ModuleType
 
 import pytest
+from spfc_tools.commands import COMMANDS
 from spfc_tools.refusals import CAUSES, KINDS, LINES, QUESTIONS, REASONS, WATCHED, Entry, markdown, read_line
 from workplace import TOP, Ended, Workplace
 
@@ -34,8 +35,8 @@ _LINES = {
 
 @pytest.mark.parametrize("line", _LINES)
 def test_line(line: str, workplace: Workplace) -> None:
-    """A line, as one word and as several."""
-    for words in (line.split(), [line]):
+    """A line, as one word and, unless its first word is a command, as several."""
+    for words in [[line]] if line.split()[0] in COMMANDS else [[line], line.split()]:
         ended = workplace.tool("spfc-explain", *words)
         assert (ended.status, ended.line) == (0, "")
         assert _LINES[line] in ended.output

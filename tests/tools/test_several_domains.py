@@ -9,7 +9,7 @@ _DOMAINS = ("taken.test", "cname.test", "example.com")
 
 def test_join_over_one_file(workplace: Workplace, server: Server) -> None:
     """Each policy has over the common file the outcomes, and `compile` the output, that it has over its own."""
-    assert workplace.gather(server, _DOMAINS[0], *_DOMAINS[1:], "-o", "all") == Ended(0)
+    assert workplace.gather(server, _DOMAINS[0], *_DOMAINS[1:], "-o", "all").status == 0
     for domain in _DOMAINS:
         workplace.gather(server, domain, "-o", domain)
         words = ["compile", domain, "--label", "_spf"]
