@@ -6,10 +6,11 @@ _spfc() {
     local reading='--lookups --voids --exchanges' general='--require-ad --verbose --version --help'
     COMPREPLY=()
     case $before in
-        --lookups | --voids | --exchanges | --size | --ttl | --label | --labels | --max-lost | --tries | --time | --jobs | -p)
+        --lookups | --voids | --exchanges | --size | --ttl | --label | --labels | --max-lost | --tries | --time | --jobs | -p | \
+            --primary | --servers | --patience | --missing | --reload)
             return
             ;;
-        -o | --policy | --holds | --kept)
+        -o | --policy | --holds | --kept | --key | --state | --config)
             compopt -o filenames
             mapfile -t COMPREPLY < <(compgen -f -- "$word")
             return
@@ -21,6 +22,11 @@ _spfc() {
             ;;
         spfc-nightly)
             options="$reading --size --ttl -p --labels --kept --max-lost --tries --time --jobs $general"
+            ;;
+        spfc-publish)
+            options="$reading --size -p --to --policy --key --primary --servers --reload --config --state --patience"
+            options+=" --missing --undo --sweep --wait --tries --time --jobs --verbose --help"
+            [ "$before" = --to ] && options='print update zone lexicon'
             ;;
         spfc-explain)
             [ "$COMP_CWORD" = 1 ] && options=$commands
@@ -44,4 +50,4 @@ _spfc() {
     fi
 }
 
-complete -F _spfc spfc spfc-gather spfc-nightly spfc-explain
+complete -F _spfc spfc spfc-gather spfc-nightly spfc-publish spfc-explain

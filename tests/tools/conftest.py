@@ -1,5 +1,6 @@
 """What the tests of the tools share: options, name servers for a session, and a workplace for each test."""
 
+import importlib.util
 import itertools
 import os
 import shutil
@@ -9,7 +10,7 @@ from pathlib import Path
 
 import pytest
 import servers
-from spfc_build.needs import NEEDS, Group
+from spfc_build.needs import NEEDS, Group, Need
 from workplace import TOP, ZONES, Workplace
 
 _NEEDS_OF_FIXTURES = {
@@ -66,10 +67,16 @@ def _spread(slow: list[pytest.Item], quick: list[pytest.Item]) -> list[pytest.It
     return [*itertools.chain.from_iterable(chunks), *quick[len(slow) * gap :]]
 
 
+def _is_installed(need: Need) -> bool:
+    """Whether a command or a module of Python is there."""
+    _, colon, name = need.probe.rpartition(":")
+    return importlib.util.find_spec(name) is not None if colon else servers.has_tool(name)
+
+
 def pytest_runtest_setup(item: pytest.Item) -> None:
     """Fails a test if a program that it needs is missing."""
     for need in NEEDS:
-        if need.group in _needs(item) and not servers.has_tool(need.probe):
+        if need.group in _needs(item) and not _is_installed(need):
             pytest.fail(f"{need.package} is not installed; --without {need.group} leaves this test out", pytrace=False)
 
 

@@ -10,7 +10,7 @@ from pathlib import Path
 import pytest
 from servers import Server
 from spfc_tools.commands import COMMANDS, NUMBERS, OPTIONS, READING
-from spfc_tools.exit_statuses import ExitStatus, ExplainStatus, GatherStatus, NightlyStatus
+from spfc_tools.exit_statuses import ExitStatus, ExplainStatus, GatherStatus, NightlyStatus, PublishStatus
 from workplace import TOP, Ended, Workplace, run
 
 _PLACES = {
@@ -27,6 +27,7 @@ _STATUSES: dict[str, type[ExitStatus]] = {
     "spfc-gather": GatherStatus,
     "spfc-nightly": NightlyStatus,
     "spfc-explain": ExplainStatus,
+    "spfc-publish": PublishStatus,
 }
 """The tools that have an enum of exit statuses, an option --help and a man page."""
 _SCRIPTS = tomllib.loads((TOP / "pyproject.toml").read_text())["project"]["scripts"]

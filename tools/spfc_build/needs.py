@@ -19,6 +19,7 @@ class Group(StrEnum):
     """Tests that can be left out by name."""
 
     SERVERS = "servers"
+    PUBLISHING = "publishing"
     PACKAGE = "package"
     MAN = "man"
     TYPES = "types"
@@ -28,6 +29,7 @@ class Group(StrEnum):
 
 MEANING = {
     Group.SERVERS: "what needs a name server or its tools",
+    Group.PUBLISHING: "what publishes records in name servers of several kinds",
     Group.PACKAGE: "the Debian package",
     Group.MAN: "the check of the manual pages",
     Group.TYPES: "the check of types",
@@ -55,6 +57,12 @@ NEEDS = (
     Need("bind9", "named", "a name server that the tools are tried with", Group.SERVERS),
     Need("nsd", "nsd", "another name server", Group.SERVERS),
     Need("bind9-utils", "named-checkzone", "loads what `compile` writes", Group.SERVERS),
+    Need("knot", "knotd", "a name server that takes updates", Group.PUBLISHING),
+    Need("pdns-server", "pdns_server", "a name server that is changed over HTTP", Group.PUBLISHING),
+    Need("pdns-backend-sqlite3", "pdnsutil", "keeps its zones", Group.PUBLISHING),
+    Need("sqlite3", "sqlite3", "makes the database of these", Group.PUBLISHING),
+    Need("python3-lexicon", "python:lexicon", "changes zones at providers", Group.PUBLISHING),
+    Need("python3-spf", "python:spf", "evaluates policies as a mail receiver does", Group.PUBLISHING),
     Need("dpkg", "dpkg-deb", "makes the Debian package", Group.PACKAGE),
     Need("python3-minimal", "py3compile", "compiles its modules as it is installed", Group.PACKAGE),
     Need("mandoc", "mandoc", "checks the manual pages", Group.MAN),

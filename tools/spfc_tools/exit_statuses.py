@@ -59,6 +59,21 @@ class ExplainStatus(ExitStatus):
     TOOL = Status.TOOL, Status.TOOL.meaning
 
 
+class PublishStatus(ExitStatus):
+    """The exit statuses of spfc-publish."""
+
+    PUBLISHED = (
+        0,
+        "published, and every server gives each address its verdict; or the plan is printed, or the names are out",
+    )
+    REFUSED = 1, "refused before anything was changed"
+    PARTLY = 2, "changed in part: the lines say what is there now and what to do"
+    NO_ANSWER = 3, "a server does not answer"
+    USAGE = Status.USAGE, Status.USAGE.meaning
+    TOOL = Status.TOOL, Status.TOOL.meaning
+    UNWRITTEN = Status.UNWRITTEN, "the state file could not be written"
+
+
 class Ending(Exception):
     """The end of a tool, with its exit status and the lines for standard error that say why."""
 

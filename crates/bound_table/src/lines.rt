@@ -1,11 +1,19 @@
 //! Writing the lines of a table.
-ghost use Rattle.std.specs.Prelude.{◌≡◌, ◌++◌, IfOk, OnOk};
+ghost use Rattle.std.specs.Prelude.{◌≡◌, ◌++◌, ◌∷◌, decimal, IfOk, OnOk};
 ghost use Rattle.bound_table.specs.Lines.{needs_text, row_line, row_lines, table_text};
 
-use addr_bits::{AddressFamily, Bytes, push_number};
+use addr_bits::{AddressFamily, Bytes};
 use fewest_terms::{Needs, Rows};
 use itoa::Buffer;
 use std::alloc::{AllocError, Global};
+
+/// Appends a number behind a space.
+fn push_number(lines: &mut Bytes, number: u64) -> Result<(), AllocError>
+    ensures { OnOk result (lines.new ≡ lines.old ++ 32 ∷ decimal number) }
+{
+    lines.push(b' ')?;
+    lines.extend_from_slice(Buffer::new().format(number).as_bytes())
+}
 
 /// Appends the four numbers of a row.
 fn push_needs(lines: &mut Bytes, needs: &Needs) -> Result<(), AllocError>

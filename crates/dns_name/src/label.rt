@@ -96,5 +96,5 @@ pub(crate) fn append_lowercase(wire: &mut ArrayVec<u8, 255>, octets: &[u8])
 pub(crate) fn drop_root(wire: &mut ArrayVec<u8, 255>)
     ensures { wire.new.items ≡ take (array_vec_len wire.old - 1) wire.old.items }
 {
-    wire.pop();
+    let _root = wire.pop();
 }

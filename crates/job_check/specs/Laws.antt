@@ -12,7 +12,7 @@ use Rattle.spfc_words.proofs.Addresses.{one_text}
 use Rattle.spfc_words.proofs.Domains.{one_domain}
 use Rattle.spfc_words.proofs.Inputs.{one_inputs}
 use Rattle.spfc_words.proofs.ReadingLimits.{one_limits, limits_modest}
-use Rattle.refusals.specs.Lines.{line_of}
+use Rattle.loading.specs.Lines.{line_of}
 use Rattle.loading.specs.declared.loaded.Loaded.{Loaded}
 use Rattle.jobs.specs.Meaning.{Due, Gives, IsLawful}
 use Rattle.jobs.specs.declared.output.Output.{Output}

@@ -7,10 +7,9 @@ ghost use Rattle.jobs.specs.Meaning.{Reads};
 ghost use Rattle.job_check.specs.Words.{SpellsCheck};
 ghost use Rattle.job_check.specs.Meaning.{IsOutcomeLine};
 
-use addr_bits::{Address, Bytes, OrMemory, read_address};
+use addr_bits::{Address, Bytes, read_address};
 use jobs::{Job, Output};
-use loading::Loaded;
-use refusals::Refusal;
+use loading::{Loaded, OrMemory, Refusal};
 use spf_model::{Limits, check_one, write_outcome};
 use spfc_words::{
     Domain, Group, Input, Inputs, READING, behind_options, push_zone_words, read_domain,

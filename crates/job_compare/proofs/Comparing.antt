@@ -8,10 +8,9 @@ use Rattle.verdict_map.specs.declared.fault.VerdictFault.TheVariants.{Refused, M
 use Rattle.policy_verdicts.specs.Policy.{IsPolicyFault, KeepVerdicts, verdict_at}
 use Rattle.policy_compare.specs.Changes.{AreChanges}
 use Rattle.policy_compare.specs.declared.change.Change.{Change}
-use Rattle.addr_bits.specs.Memory.{ErrorIs}
-use Rattle.refusals.specs.Refusals.{refusal_of}
+use Rattle.loading.specs.Memory.{ErrorIs, refusal_of}
 use Rattle.loading.specs.declared.loaded.Loaded.{Loaded}
-use Rattle.refusals.specs.declared.refusal.Refusal.{Refusal}
+use Rattle.loading.specs.declared.refusal.Refusal.{Refusal}
 use Rattle.jobs.specs.Meaning.{Refuses, Gives}
 use Rattle.jobs.specs.declared.output.Output.{Output}
 use Rattle.job_compare.specs.Lines.{changes_text}

@@ -1,7 +1,7 @@
 -- The text of no change, and that of some.
 use Rattle.std.proofs.Common.{◌≡◌, ◌==◌, true, false, List, [], ◌∷◌, length, refl, arith, true≢false, codes, flat_map}
 use Rattle.std.proofs.lemmas.Bool.{eqb-true}
-use Rattle.refusals.specs.Lines.{line_of}
+use Rattle.loading.specs.Lines.{line_of}
 use Rattle.policy_compare.specs.declared.change.Change.{Change}
 use Rattle.job_compare.specs.Lines.{change_line, changes_text}
 

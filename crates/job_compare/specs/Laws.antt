@@ -24,8 +24,8 @@ use Rattle.spfc_words.proofs.Domains.{one_domain}
 use Rattle.spfc_words.proofs.Inputs.{one_inputs}
 use Rattle.spfc_words.proofs.ReadingLimits.{one_limits, limits_modest}
 use Rattle.loading.specs.declared.loaded.Loaded.{Loaded}
-use Rattle.refusals.specs.declared.refusal.Refusal.{Refusal}
-use Rattle.refusals.specs.declared.refusal.Refusal.TheVariants.{NoVerdict}
+use Rattle.loading.specs.declared.refusal.Refusal.{Refusal}
+use Rattle.loading.specs.declared.refusal.Refusal.TheVariants.{NoVerdict}
 use Rattle.jobs.specs.Meaning.{Due, Refuses, Gives, IsLawful}
 use Rattle.jobs.specs.declared.output.Output.{Output}
 use Rattle.job_compare.specs.Lines.{changes_text}

@@ -1,7 +1,7 @@
 -- The lines of changes: the project's own choice.
 use Rattle.std.specs.Prelude.{ℕ, List, [], ◌∷◌, ◌++◌, codes, decimal, flat_map}
 use Rattle.spf_model.specs.Lines.{verdict_word}
-use Rattle.refusals.specs.Lines.{line_of, address_text}
+use Rattle.loading.specs.Lines.{line_of, address_text}
 use Rattle.policy_compare.specs.declared.change.Change.{Change}
 use Rattle.policy_compare.specs.declared.change.Count.{Count}
 use Rattle.policy_compare.specs.declared.change.Count.TheVariants.{All, Number}

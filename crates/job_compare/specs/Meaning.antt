@@ -12,9 +12,9 @@ use Rattle.policy_compare.specs.declared.change.Change.{Change}
 use Rattle.policy_verdicts.specs.Policy.{IsLeastRefused, verdict_at}
 use Rattle.spfc_words.specs.declared.input.Group.{Group}
 use Rattle.spfc_words.specs.declared.input.Group.TheVariants.{Zones, Others}
-use Rattle.refusals.specs.Lines.{line_of}
+use Rattle.loading.specs.Lines.{line_of}
 use Rattle.loading.specs.declared.loaded.Loaded.{Loaded}
-use Rattle.refusals.specs.declared.refusal.Refusal.TheVariants.{NoVerdict}
+use Rattle.loading.specs.declared.refusal.Refusal.TheVariants.{NoVerdict}
 use Rattle.jobs.specs.Meaning.{Due, Refuses, Gives, Meaning}
 use Rattle.jobs.specs.declared.output.Output.{Output}
 use Rattle.job_compare.specs.Lines.{changes_text}

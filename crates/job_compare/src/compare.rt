@@ -7,12 +7,10 @@ ghost use Rattle.job_compare.specs.Meaning.{zones_in};
 
 use crate::groups::{Groups, read_groups};
 use crate::lines::write_changes;
-use addr_bits::OrMemory;
 use jobs::{Job, Output};
-use loading::Loaded;
+use loading::{Loaded, OrMemory, Refusal};
 use policy_compare::compare;
 use policy_verdicts::policy_verdicts;
-use refusals::Refusal;
 use spf_model::Limits;
 use spfc_words::{
     Domain, Group, Input, READING, behind_options, read_domain, read_limits, split_first,
@@ -64,11 +62,9 @@ impl Job for Compare {
     }
 
     fn perform(&self, alloc: Global, loaded: &Loaded) -> Result<Output, OrMemory<Refusal>> {
-        let (first, second) = (self.one.text.as_slice(), self.two.text.as_slice());
-        let zones = &loaded.zones;
-        let one = policy_verdicts(alloc, zones, self.limits, first).map_err(Refusal::from_fault)?;
-        let zones = zones_of(loaded, self.groups.second);
-        let two = policy_verdicts(alloc, zones, self.limits, second).map_err(Refusal::from_fault)?;
+        let one = policy_verdicts(alloc, &loaded.zones, self.limits, self.one.text.as_slice())?;
+        let others = zones_of(loaded, self.groups.second);
+        let two = policy_verdicts(alloc, others, self.limits, self.two.text.as_slice())?;
         let changes = compare(alloc, &one.tries, &two.tries)?;
         let bytes = write_changes(alloc, changes.as_slice())?;
         Ok(Output {

@@ -5,8 +5,8 @@ ghost use Rattle.spf_model.specs.Lines.{verdict_word};
 
 use addr_bits::Bytes;
 use itoa::Buffer;
+use loading::{line, push_address, push_part};
 use policy_compare::{Change, Count};
-use refusals::{line, push_address, push_part};
 use spf_grammar::Verdict;
 use spf_model::{Outcome, write_outcome};
 use std::alloc::{AllocError, Global};

@@ -10,7 +10,7 @@ use Rattle.spfc_words.proofs.Inputs.{one_inputs}
 use Rattle.spfc_words.proofs.ReadingLimits.{one_limits, limits_modest}
 use Rattle.spfc_words.proofs.Settings.{one_flag_is}
 use Rattle.loading.specs.declared.loaded.Loaded.{Loaded}
-use Rattle.refusals.specs.declared.refusal.Refusal.{Refusal}
+use Rattle.loading.specs.declared.refusal.Refusal.{Refusal}
 use Rattle.jobs.specs.Meaning.{Due, Refuses, Gives, IsLawful}
 use Rattle.jobs.specs.declared.output.Output.{Output}
 use Rattle.publishing.specs.Policy.{PolicyDue}

@@ -4,11 +4,9 @@ ghost use Rattle.spfc_words.specs.Words.{texts};
 ghost use Rattle.jobs.specs.Meaning.{Reads};
 ghost use Rattle.job_compile.specs.Words.{SpellsCompile};
 
-use addr_bits::OrMemory;
 use jobs::{Job, Output};
-use loading::Loaded;
+use loading::{Loaded, OrMemory, Refusal};
 use publishing::{ChainSettings, LABEL, Publication, TTL, publish_policy, read_settings};
-use refusals::Refusal;
 use spf_model::Limits;
 use spfc_words::{
     EXCHANGES, FlagRow, Group, Input, Inputs, LOOKUPS, Row, SIZE, VOIDS, behind_options,

@@ -10,7 +10,7 @@ use Rattle.spf_model.specs.Run.{AnsweringEach, AnswerAlike, says}
 use Rattle.spf_model.specs.declared.outcome.Limits.{Limits}
 use Rattle.spf_model.specs.declared.outcome.Outcome.{Outcome}
 use Rattle.symbolic_check.specs.Evaluation.{IsEvaluation}
-use Rattle.refusals.specs.Lines.{line_of}
+use Rattle.loading.specs.Lines.{line_of}
 use Rattle.loading.specs.declared.loaded.Loaded.{Loaded}
 use Rattle.jobs.specs.Meaning.{Due, Gives, Meaning}
 use Rattle.jobs.specs.declared.output.Output.{Output}

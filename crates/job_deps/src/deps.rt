@@ -4,10 +4,9 @@ ghost use Rattle.dns_name.specs.Name.{name_of_text};
 ghost use Rattle.spf_model.specs.Result.{AreModest};
 ghost use Rattle.job_deps.specs.Meaning.{question_lines, AreAskedLines};
 
-use addr_bits::{Bytes, OrMemory};
+use addr_bits::Bytes;
 use jobs::{Job, Output};
-use loading::Loaded;
-use refusals::Refusal;
+use loading::{Loaded, OrMemory, Refusal};
 use spf_model::Limits;
 use spfc_words::{Input, Subject};
 use std::alloc::{AllocError, Global};

@@ -21,10 +21,9 @@ use Rattle.policy_join.specs.Strength.{joined}
 use Rattle.policy_join.specs.Tries.{IsJoin, verdicts4, verdicts6}
 use Rattle.spfc_words.specs.declared.domain.Domain.{Domain}
 use Rattle.spfc_words.proofs.ZoneWords.{zip_push}
-use Rattle.addr_bits.specs.Memory.{ErrorIs}
-use Rattle.refusals.specs.Refusals.{refusal_of}
+use Rattle.loading.specs.Memory.{ErrorIs, refusal_of}
 use Rattle.loading.specs.declared.loaded.Loaded.{Loaded}
-use Rattle.refusals.specs.declared.refusal.Refusal.{Refusal}
+use Rattle.loading.specs.declared.refusal.Refusal.{Refusal}
 use Rattle.jobs.specs.Meaning.{Refuses, Gives}
 use Rattle.jobs.specs.declared.output.Output.{Output}
 use Rattle.publishing.specs.Published.{PublicationDue}

@@ -23,8 +23,8 @@ use Rattle.spfc_words.proofs.ReadingLimits.{one_limits, limits_modest}
 use Rattle.spfc_words.proofs.Settings.{one_flag_is}
 use Rattle.published_records.specs.Standing.{HoldsName}
 use Rattle.loading.specs.declared.loaded.Loaded.{Loaded}
-use Rattle.refusals.specs.declared.refusal.Refusal.{Refusal}
-use Rattle.refusals.specs.declared.refusal.Refusal.TheVariants.{NoVerdict}
+use Rattle.loading.specs.declared.refusal.Refusal.{Refusal}
+use Rattle.loading.specs.declared.refusal.Refusal.TheVariants.{NoVerdict}
 use Rattle.jobs.specs.Meaning.{Due, Refuses, Gives, IsLawful}
 use Rattle.jobs.specs.declared.output.Output.{Output}
 use Rattle.publishing.specs.Published.{PublicationDue}

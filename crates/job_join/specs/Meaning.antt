@@ -6,8 +6,8 @@ use Rattle.spf_model.specs.Result.{AreModest}
 use Rattle.spf_model.specs.declared.outcome.Outcome.{Outcome}
 use Rattle.spfc_words.specs.declared.domain.Domain.{Domain}
 use Rattle.loading.specs.declared.loaded.Loaded.{Loaded}
-use Rattle.refusals.specs.declared.refusal.Refusal.{Refusal}
-use Rattle.refusals.specs.declared.refusal.Refusal.TheVariants.{NoVerdict}
+use Rattle.loading.specs.declared.refusal.Refusal.{Refusal}
+use Rattle.loading.specs.declared.refusal.Refusal.TheVariants.{NoVerdict}
 use Rattle.jobs.specs.Meaning.{Due, Refuses, Gives, Meaning}
 use Rattle.jobs.specs.declared.output.Output.{Output}
 use Rattle.publishing.specs.Policy.{IsShortestOf}

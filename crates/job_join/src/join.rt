@@ -5,12 +5,10 @@ ghost use Rattle.job_join.specs.Words.{IsJoin, SpellsParts};
 
 use crate::domains::{Domains, read_domains, split_domains};
 use crate::verdicts::verdicts_of_all;
-use addr_bits::OrMemory;
 use jobs::{Job, Output};
-use loading::Loaded;
+use loading::{Loaded, OrMemory, Refusal};
 use policy_join::join;
 use publishing::{ChainSettings, LABEL, TTL, publish, read_settings};
-use refusals::Refusal;
 use spf_model::Limits;
 use spfc_words::{
     EXCHANGES, FlagRow, Group, Input, Inputs, LOOKUPS, Row, SIZE, VOIDS, behind_options,
@@ -74,8 +72,7 @@ impl Job for Join {
     }
 
     fn perform(&self, alloc: Global, loaded: &Loaded) -> Result<Output, OrMemory<Refusal>> {
-        let (zones, domains) = (&loaded.zones, self.domains.as_slice());
-        let all = verdicts_of_all(alloc, zones, self.limits, domains).map_err(Refusal::from_fault)?;
+        let all = verdicts_of_all(alloc, &loaded.zones, self.limits, self.domains.as_slice())?;
         let joined = join(alloc, &all, self.weakest)?;
         let bytes = publish(alloc, &loaded.zones, &self.settings, &joined)?;
         Ok(Output {

@@ -1,9 +1,7 @@
 //! The job.
-use addr_bits::OrMemory;
 use deps_watch::keep;
 use jobs::{Job, Output};
-use loading::Loaded;
-use refusals::Refusal;
+use loading::{Loaded, OrMemory, Refusal};
 use spfc_words::{Input, Subject};
 use std::alloc::{AllocError, Global};
 use zone_answers::Questions;

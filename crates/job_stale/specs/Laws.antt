@@ -17,8 +17,8 @@ use Rattle.deps_watch.specs.Freshness.{IsFreshness, IsFirstStale}
 use Rattle.deps_watch.proofs.KeptWell.{fresh_keeps}
 use Rattle.deps_watch.proofs.Watching.{fresh_or_stale, first_stale}
 use Rattle.loading.specs.declared.loaded.Loaded.{Loaded}
-use Rattle.refusals.specs.declared.refusal.Refusal.{Refusal}
-use Rattle.refusals.specs.declared.refusal.Refusal.TheVariants.{BadList}
+use Rattle.loading.specs.declared.refusal.Refusal.{Refusal}
+use Rattle.loading.specs.declared.refusal.Refusal.TheVariants.{BadList}
 use Rattle.jobs.specs.Meaning.{Due, Refuses, Gives, IsLawful}
 use Rattle.jobs.specs.declared.output.Output.{Output}
 use Rattle.job_stale.specs.declared.stale.Stale.{Stale}

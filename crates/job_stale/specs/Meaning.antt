@@ -13,9 +13,9 @@ use Rattle.deps_watch.specs.declared.fresh.Freshness.TheVariants.{Fresh}
 use Rattle.deps_watch.specs.Freshness.{IsFirstStale, IsFreshness}
 use Rattle.deps_watch.specs.Keeping.{IsKeptOf}
 use Rattle.deps_watch.specs.Laws.{SameOutcomes}
-use Rattle.refusals.specs.Lines.{line_of}
+use Rattle.loading.specs.Lines.{line_of}
 use Rattle.loading.specs.declared.loaded.Loaded.{Loaded}
-use Rattle.refusals.specs.declared.refusal.Refusal.TheVariants.{BadList}
+use Rattle.loading.specs.declared.refusal.Refusal.TheVariants.{BadList}
 use Rattle.jobs.specs.Meaning.{Due, Refuses, Gives, Meaning}
 use Rattle.jobs.specs.declared.output.Output.{Output}
 use Rattle.job_stale.specs.declared.stale.Stale.{Stale}

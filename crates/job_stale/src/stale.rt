@@ -7,11 +7,10 @@ ghost use Rattle.jobs.specs.Meaning.{Reads};
 ghost use Rattle.job_stale.specs.Meaning.{IsWatchLine};
 ghost use Rattle.job_stale.specs.Words.{SpellsStale};
 
-use addr_bits::{Bytes, OrMemory};
+use addr_bits::Bytes;
 use deps_watch::{Freshness, Kept, KeptFault, read_kept, stale};
 use jobs::{Job, Output};
-use loading::Loaded;
-use refusals::{Refusal, copied, line};
+use loading::{Loaded, OrMemory, Refusal, copied, line};
 use spfc_words::{Group, Input, Inputs, push_file, push_zone_words, split_first};
 use std::alloc::{AllocError, Global};
 use zone_answers::{Questions, Zones};

@@ -3,7 +3,7 @@ use Rattle.std.specs.Prelude.{◌≡◌, ℕ, List, [], ◌∷◌}
 use Rattle.std.proofs.Common.{sym, ap, lit≤, ◌∙◌}
 use Rattle.spfc_words.proofs.Settings.{one_number}
 use Rattle.loading.specs.declared.loaded.Loaded.{Loaded}
-use Rattle.refusals.specs.declared.refusal.Refusal.{Refusal}
+use Rattle.loading.specs.declared.refusal.Refusal.{Refusal}
 use Rattle.jobs.specs.Meaning.{Due, Refuses, Gives, IsLawful}
 use Rattle.jobs.specs.declared.output.Output.{Output}
 use Rattle.policy_trial.proofs.OneTrial.{one_trial}

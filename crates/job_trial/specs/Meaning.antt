@@ -1,7 +1,7 @@
 -- What the job means.
 use Rattle.std.specs.Prelude.{◌≡◌, ◌≤◌, []}
 use Rattle.loading.specs.declared.loaded.Loaded.{Loaded}
-use Rattle.refusals.specs.declared.refusal.Refusal.{Refusal}
+use Rattle.loading.specs.declared.refusal.Refusal.{Refusal}
 use Rattle.jobs.specs.Meaning.{Due, Refuses, Gives, Meaning}
 use Rattle.jobs.specs.declared.output.Output.{Output}
 use Rattle.policy_trial.specs.Trial.{TrialDue}

@@ -1,11 +1,9 @@
 //! The job.
 
 use crate::line::write_line;
-use addr_bits::OrMemory;
 use jobs::{Job, Output};
-use loading::Loaded;
+use loading::{Loaded, OrMemory, Refusal};
 use policy_trial::run_trial;
-use refusals::Refusal;
 use spfc_words::{Input, Inputs, parse_number};
 use std::alloc::{AllocError, Global};
 use zone_answers::Questions;

@@ -1,10 +1,10 @@
 -- Why a file is not accepted.
 use Rattle.std.proofs.Common.{◌≡◌, sym, refl}
-use Rattle.addr_bits.specs.Memory.{ErrorIs}
+use Rattle.loading.specs.Memory.{ErrorIs}
 use Rattle.loading.specs.declared.loaded.Loaded.{Loaded}
-use Rattle.addr_bits.specs.declared.memory.OrMemory.{OrMemory}
-use Rattle.addr_bits.specs.declared.memory.OrMemory.TheVariants.{Error, Memory}
-use Rattle.refusals.specs.declared.refusal.Refusal.{Refusal}
+use Rattle.loading.specs.declared.memory.OrMemory.{OrMemory}
+use Rattle.loading.specs.declared.memory.OrMemory.TheVariants.{Error, Memory}
+use Rattle.loading.specs.declared.refusal.Refusal.{Refusal}
 use Rattle.cert_checker.specs.Reasons.{IsReason}
 use Rattle.cert_checker.specs.declared.answer.No.{No}
 use Rattle.jobs.specs.Meaning.{Refuses}

@@ -18,9 +18,9 @@ use Rattle.spfc_words.proofs.LowerTexts.{is_domain_lower}
 use Rattle.spfc_words.proofs.ReadingLimits.{one_limits, limits_modest}
 use Rattle.spfc_words.proofs.Settings.{one_number_is}
 use Rattle.loading.specs.declared.loaded.Loaded.{Loaded}
-use Rattle.addr_bits.specs.declared.memory.OrMemory.{OrMemory}
-use Rattle.addr_bits.specs.declared.memory.OrMemory.TheVariants.{Error, Memory}
-use Rattle.refusals.specs.declared.refusal.Refusal.{Refusal}
+use Rattle.loading.specs.declared.memory.OrMemory.{OrMemory}
+use Rattle.loading.specs.declared.memory.OrMemory.TheVariants.{Error, Memory}
+use Rattle.loading.specs.declared.refusal.Refusal.{Refusal}
 use Rattle.cert_checker.specs.declared.answer.No.{No}
 use Rattle.cert_checker.specs.declared.answer.No.TheVariants as no
 use Rattle.cert_checker.specs.declared.answer.Yes.{Yes}

@@ -2,14 +2,14 @@
 use Rattle.std.specs.Prelude.{◌≡◌, ℕ, IsTrue, List, [], codes, decimal}
 use Rattle.spf_macros.specs.Words.{is_domain}
 use Rattle.spf_model.specs.Result.{AreModest}
-use Rattle.refusals.specs.Lines.{line_of, spaced}
+use Rattle.loading.specs.Lines.{line_of, spaced}
 use Rattle.loading.specs.declared.loaded.Loaded.{Loaded}
-use Rattle.addr_bits.specs.declared.memory.OrMemory.{OrMemory}
-use Rattle.addr_bits.specs.declared.memory.OrMemory.TheVariants.{Error, Memory}
-use Rattle.refusals.specs.declared.refusal.Denial.TheVariants.{NoZone, NoChain, NoTable, NoTerms, NoRecords}
-use Rattle.refusals.specs.declared.refusal.Denial.TheVariants as denial
-use Rattle.refusals.specs.declared.refusal.Refusal.{Refusal}
-use Rattle.refusals.specs.declared.refusal.Refusal.TheVariants.{NoVerdict, Denied}
+use Rattle.loading.specs.declared.memory.OrMemory.{OrMemory}
+use Rattle.loading.specs.declared.memory.OrMemory.TheVariants.{Error, Memory}
+use Rattle.loading.specs.declared.refusal.Denial.TheVariants.{NoZone, NoChain, NoTable, NoTerms, NoRecords}
+use Rattle.loading.specs.declared.refusal.Denial.TheVariants as denial
+use Rattle.loading.specs.declared.refusal.Refusal.{Refusal}
+use Rattle.loading.specs.declared.refusal.Refusal.TheVariants.{NoVerdict, Denied}
 use Rattle.cert_checker.specs.Certified.{IsCertified}
 use Rattle.cert_checker.specs.Reasons.{IsReason}
 use Rattle.cert_checker.specs.declared.answer.No.{No}

@@ -5,12 +5,11 @@ ghost use Rattle.jobs.specs.Meaning.{Reads};
 ghost use Rattle.job_verify.specs.Words.{SpellsVerify};
 ghost use Rattle.job_verify.specs.Meaning as meaning;
 
-use addr_bits::{Bytes, OrMemory};
+use addr_bits::Bytes;
 use cert_checker::{No, Yes, verify};
 use itoa::Buffer;
 use jobs::{Job, Output};
-use loading::Loaded;
-use refusals::{Denial, Refusal, line, push_part};
+use loading::{Denial, Loaded, OrMemory, Refusal, line, push_part};
 use spf_model::Limits;
 use spfc_words::{
     Domain, EXCHANGES, Group, Input, Inputs, LOOKUPS, Row, SIZE, VOIDS, behind_options, push_file,

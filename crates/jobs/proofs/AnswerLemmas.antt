@@ -6,7 +6,7 @@ use Rattle.std.specs.declared.alloc.AllocError.{AllocError}
 use Rattle.spfc_outer.specs.Seen.{FilesSeen}
 use Rattle.spfc_words.specs.declared.input.Input.{Input}
 use Rattle.loading.specs.declared.loaded.Loaded.{Loaded}
-use Rattle.refusals.specs.declared.refusal.Refusal.{Refusal}
+use Rattle.loading.specs.declared.refusal.Refusal.{Refusal}
 use Rattle.loading.specs.Loading.{Loads, nothing}
 use Rattle.jobs.specs.declared.output.Output.{Output}
 use Rattle.jobs.specs.Meaning.{Due, Refuses, Gives, Meaning, Program, AreLawful}

@@ -4,10 +4,10 @@ use Rattle.std.proofs.Common.{refl, sym, ◌∙◌, arith, ap, subst, inl, inr}
 use Rattle.std.proofs.lemmas.Bool.{false≢true}
 use Rattle.spfc_outer.specs.Seen.{FilesSeen}
 use Rattle.loading.specs.declared.loaded.Loaded.{Loaded}
-use Rattle.refusals.specs.declared.refusal.Refusal.{Refusal}
-use Rattle.refusals.specs.declared.refusal.Refusal.TheVariants.{NoFile, LongFile, BadZone, TooManyRecords, AliasAndOther}
-use Rattle.refusals.specs.declared.refusal.Refusal.TheVariants.{NoVerdict, Alias, Taken, TooBig, BadList, Denied}
-use Rattle.refusals.specs.Refusals.{refusal_status}
+use Rattle.loading.specs.declared.refusal.Refusal.{Refusal}
+use Rattle.loading.specs.declared.refusal.Refusal.TheVariants.{NoFile, LongFile, BadZone, TooManyRecords, AliasAndOther}
+use Rattle.loading.specs.declared.refusal.Refusal.TheVariants.{NoVerdict, Alias, Taken, TooBig, BadList, Denied}
+use Rattle.loading.specs.Refusals.{refusal_status}
 use Rattle.loading.proofs.OneLoading.{one_loading}
 use Rattle.jobs.specs.Meaning.{Due, Refuses, Gives, Meaning, Program, AreLawful, IsLawful}
 use Rattle.jobs.specs.Given.{Given, IsGiven, JobDue, Behind, IsReadFault, tells, LineDue, finding, usage, fault}

@@ -6,10 +6,10 @@ use Rattle.spfc_outer.specs.Seen.{Contents, FilesSeen}
 use Rattle.spfc_words.specs.Words.{texts}
 use Rattle.spfc_words.specs.declared.input.Input.{Input}
 use Rattle.loading.specs.declared.loaded.Loaded.{Loaded}
-use Rattle.refusals.specs.declared.refusal.Refusal.{Refusal}
-use Rattle.refusals.specs.Lines.{usage_line, read_fault_line}
+use Rattle.loading.specs.declared.refusal.Refusal.{Refusal}
+use Rattle.loading.specs.Lines.{usage_line, read_fault_line}
 use Rattle.loading.specs.Loading.{Loads, FaultAmong}
-use Rattle.refusals.specs.Refusals.{refusal_status, refusal_line}
+use Rattle.loading.specs.Refusals.{refusal_status, refusal_line}
 use Rattle.jobs.specs.declared.output.Output.{Output}
 use Rattle.jobs.specs.Meaning.{Due, Refuses, Gives, Meaning, Program}
 

@@ -3,10 +3,10 @@ use Rattle.std.specs.Prelude.{ℕ, List, ◌≡◌, Result, IfOk, IfErr, IfSome,
 use Rattle.std.specs.declared.option.Option.{Option}
 use Rattle.std.specs.declared.alloc.AllocError.{AllocError}
 use Rattle.spfc_words.specs.declared.input.Input.{Input}
-use Rattle.addr_bits.specs.Memory.{ErrorIs}
-use Rattle.addr_bits.specs.declared.memory.OrMemory.{OrMemory}
+use Rattle.loading.specs.Memory.{ErrorIs}
+use Rattle.loading.specs.declared.memory.OrMemory.{OrMemory}
 use Rattle.loading.specs.declared.loaded.Loaded.{Loaded}
-use Rattle.refusals.specs.declared.refusal.Refusal.{Refusal}
+use Rattle.loading.specs.declared.refusal.Refusal.{Refusal}
 use Rattle.jobs.specs.declared.output.Output.{Output}
 
 -- what is due for a job over what was read: a refusal, or an output

@@ -8,9 +8,9 @@ use Rattle.spfc_outer.specs.Causes.{Rose}
 use Rattle.spfc_outer.specs.Moved.{AppendsPart}
 use Rattle.spfc_outer.specs.Seen.{FilesSeen, SinkSeen}
 use Rattle.spfc_words.specs.Words.{texts}
-use Rattle.refusals.specs.declared.refusal.Refusal.{Refusal}
-use Rattle.refusals.specs.Lines.{usage_line, read_fault_line}
-use Rattle.refusals.specs.Refusals.{refusal_status, refusal_line}
+use Rattle.loading.specs.declared.refusal.Refusal.{Refusal}
+use Rattle.loading.specs.Lines.{usage_line, read_fault_line}
+use Rattle.loading.specs.Refusals.{refusal_status, refusal_line}
 use Rattle.jobs.specs.declared.output.Output.{Output}
 use Rattle.jobs.specs.Meaning.{Program, Refuses, Gives}
 use Rattle.jobs.specs.Given.{Given, IsGiven, IsUsage, IsBestOutput, IsReadFault, LineDue, Spoken, WordsDue}

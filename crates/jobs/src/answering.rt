@@ -1,15 +1,14 @@
 //! What the words come to, before anything is written.
 ghost use Rattle.std.specs.Prelude.{◌≡◌, IfOk};
 ghost use Rattle.spfc_outer.specs.Seen.{Keeps};
-ghost use Rattle.refusals.specs.Refusals.{refusal_status, refusal_line};
+ghost use Rattle.loading.specs.Refusals.{refusal_status, refusal_line};
 ghost use Rattle.jobs.specs.Meaning.{program};
 ghost use Rattle.jobs.specs.Given.{given};
 ghost use Rattle.jobs.specs.Answer.{IsAnswer};
 
 use crate::{Job, Output};
-use addr_bits::{Bytes, OrMemory};
-use loading::{Stop, load_inputs};
-use refusals::{Refusal, line};
+use addr_bits::Bytes;
+use loading::{OrMemory, Refusal, Stop, line, load_inputs};
 use spfc_outer::Files;
 use std::alloc::{AllocError, Global};
 

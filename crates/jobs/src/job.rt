@@ -4,9 +4,7 @@ ghost use Rattle.spfc_words.specs.Words.{texts};
 ghost use Rattle.jobs.specs.Meaning.{Meaning, IsLawful, Answers, Reads};
 
 use crate::Output;
-use addr_bits::OrMemory;
-use loading::Loaded;
-use refusals::Refusal;
+use loading::{Loaded, OrMemory, Refusal};
 use spfc_words::Input;
 use std::alloc::{AllocError, Global};
 

@@ -11,8 +11,8 @@ use Rattle.spfc_outer.specs.Moved.{IsLoaded}
 use Rattle.spfc_outer.specs.Seen.{Contents, FilesSeen, Keeps}
 use Rattle.spfc_words.specs.declared.input.Input.{Input}
 use Rattle.loading.specs.declared.loaded.Loaded.{Loaded}
-use Rattle.refusals.specs.declared.refusal.Refusal.{Refusal}
-use Rattle.refusals.specs.declared.refusal.Refusal.TheVariants.{LongFile}
+use Rattle.loading.specs.declared.refusal.Refusal.{Refusal}
+use Rattle.loading.specs.declared.refusal.Refusal.TheVariants.{LongFile}
 use Rattle.loading.specs.declared.stop.Stop.{Stop}
 use Rattle.loading.specs.declared.stop.Stop.TheVariants.{Refused, ReadFault}
 use Rattle.loading.specs.Loading.{FileDue, long_file, whole, most_bytes, nothing, Then, InputDue, InputsDue, Loads}

@@ -19,8 +19,8 @@ use Rattle.spfc_words.specs.declared.input.Input.{Input}
 use Rattle.spfc_words.specs.declared.input.Place.{Place}
 use Rattle.spfc_words.specs.declared.input.Place.TheVariants as place
 use Rattle.loading.specs.declared.loaded.Loaded.{Loaded}
-use Rattle.refusals.specs.declared.refusal.Refusal.{Refusal}
-use Rattle.refusals.specs.declared.refusal.Refusal.TheVariants.{BadZone, AliasAndOther}
+use Rattle.loading.specs.declared.refusal.Refusal.{Refusal}
+use Rattle.loading.specs.declared.refusal.Refusal.TheVariants.{BadZone, AliasAndOther}
 use Rattle.loading.specs.Loading.{FileDue, no_file, long_file, whole, ReadingDue, bad_zone, read}
 use Rattle.loading.specs.Loading.{LendDue, too_many, clash, lent}
 use Rattle.loading.specs.Loading.{Then, RecordsDue, ZonesDue, nothing, PlaceDue, InputsDue, Loads}

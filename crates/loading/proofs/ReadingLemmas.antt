@@ -7,14 +7,13 @@ use Rattle.master_reader.specs.declared.fault.Kind.{Kind}
 use Rattle.master_reader.specs.declared.record.Record.{Record}
 use Rattle.spfc_outer.specs.Seen.{FilesSeen}
 use Rattle.loading.specs.Loading.{no_file, long_file, whole, bad_zone, read, most_bytes, RecordsDue, IsRefusal, StopsAt}
-use Rattle.addr_bits.specs.Memory.{ErrorIs}
+use Rattle.loading.specs.Memory.{ErrorIs}
 use Rattle.loading.specs.Reading.{ComesTo, HasTaken, EndsTaken, HasRead}
-use Rattle.addr_bits.specs.declared.memory.OrMemory.{OrMemory}
+use Rattle.loading.specs.declared.memory.OrMemory.{OrMemory}
 use Rattle.loading.specs.declared.reading.Taken.{Taken}
-use Rattle.refusals.specs.declared.refusal.Refusal.TheVariants.{NoFile, LongFile, BadZone}
+use Rattle.loading.specs.declared.refusal.Refusal.TheVariants.{NoFile, LongFile, BadZone}
 use Rattle.loading.specs.declared.stop.Stop.{Stop}
-use Rattle.addr_bits.proofs.Errors.{result_also}
-use Rattle.loading.proofs.StopLemmas.{refusal_stops}
+use Rattle.loading.proofs.StopLemmas.{result_also, refusal_stops}
 
 pub bound : (bytes piece : List ℕ) (count : ℕ) → count ≡ length bytes → count + length piece ≤ most_bytes + 1
     → length (bytes ++ piece) < 2 ^ 64

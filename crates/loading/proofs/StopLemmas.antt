@@ -1,11 +1,28 @@
 -- Why a step stops, and calls of the files in a row.
-use Rattle.std.proofs.Common.{◌≤◌, ℕ, List, IsTrue, sym, ◌∙◌, arith, subst}
+use Rattle.std.proofs.Common.{◌≤◌, ℕ, List, Err, Ok, Result, IfErr, OnOk, IsTrue, sym, ◌∙◌, arith, subst}
 use Rattle.spfc_outer.specs.Causes.{Rose}
 use Rattle.spfc_outer.specs.Seen.{FilesSeen, Keeps, FailsAt}
 use Rattle.loading.specs.Loading.{IsRefusal, StopsAt}
-use Rattle.refusals.specs.declared.refusal.Refusal.{Refusal}
+use Rattle.loading.specs.Memory.{ErrorIs}
+use Rattle.loading.specs.declared.memory.OrMemory.{OrMemory}
+use Rattle.loading.specs.declared.memory.OrMemory.TheVariants.{Error, Memory}
+use Rattle.loading.specs.declared.refusal.Refusal.{Refusal}
 use Rattle.loading.specs.declared.stop.Stop.{Stop}
 use Rattle.loading.specs.declared.stop.Stop.TheVariants.{Refused, ReadFault}
+
+-- ---- errors
+pub error_also : {E : Type 0} (P Q : E → Type 0) → ((e : E) → P e → Q e) → (x : OrMemory E) → ErrorIs P x → ErrorIs Q x
+error_also P Q more (Error e) is = more e is
+error_also P Q more Memory is = tt
+
+pub result_also : {A E : Type 0} (P Q : E → Type 0) → ((e : E) → P e → Q e) → (r : Result A (OrMemory E))
+    → IfErr r (ErrorIs P) → IfErr r (ErrorIs Q)
+result_also P Q more (Ok a) is = tt
+result_also P Q more (Err x) is = error_also P Q more x is
+
+pub done_also : {A E P Q : Type 0} → (r : Result A E) → (P → Q) → OnOk r P → OnOk r Q
+done_also (Ok a) more is = more is
+done_also (Err e) more is = tt
 
 -- ---- a step with one file
 pub stops_also : (before after : FilesSeen) (file : List ℕ) (P Q : Refusal → Type 0)

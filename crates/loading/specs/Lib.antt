@@ -1,2 +1,5 @@
+pub mod Lines
 pub mod Loading
+pub mod Memory
 pub mod Reading
+pub mod Refusals

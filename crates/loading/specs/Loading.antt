@@ -15,8 +15,8 @@ use Rattle.spfc_words.specs.declared.input.Input.{Input}
 use Rattle.spfc_words.specs.declared.input.Place.{Place}
 use Rattle.spfc_words.specs.declared.input.Place.TheVariants as place
 use Rattle.loading.specs.declared.loaded.Loaded.{Loaded}
-use Rattle.refusals.specs.declared.refusal.Refusal.{Refusal}
-use Rattle.refusals.specs.declared.refusal.Refusal.TheVariants.{NoFile, LongFile, BadZone, TooManyRecords, AliasAndOther}
+use Rattle.loading.specs.declared.refusal.Refusal.{Refusal}
+use Rattle.loading.specs.declared.refusal.Refusal.TheVariants.{NoFile, LongFile, BadZone, TooManyRecords, AliasAndOther}
 use Rattle.loading.specs.declared.stop.Stop.{Stop}
 use Rattle.loading.specs.declared.stop.Stop.TheVariants.{Refused, ReadFault}
 

@@ -3,12 +3,11 @@ ghost use Rattle.std.specs.Prelude.{◌≡◌, Ok, Err, OnOk, IfErr};
 ghost use Rattle.dns_name.specs.Name.{IsName};
 ghost use Rattle.zone_answers.specs.Lend.{AreLendable};
 ghost use Rattle.loading.specs.Loading.{LendDue};
-ghost use Rattle.addr_bits.specs.Memory.{ErrorIs};
+ghost use Rattle.loading.specs.Memory.{ErrorIs};
 
-use addr_bits::OrMemory;
+use crate::{OrMemory, Refusal};
 use dns_name::Name;
 use master_reader::Records;
-use refusals::Refusal;
 use zone_answers::{LendFault, Zones};
 
 /// Lends the records beside the zones before them, none of which has this origin: one that has is answered as want of

@@ -8,15 +8,14 @@ ghost use Rattle.spfc_outer.specs.Causes.{HasOpenCause};
 ghost use Rattle.spfc_outer.specs.Moved.{Takes, TakesAtMost};
 ghost use Rattle.spfc_outer.specs.Seen.{Keeps, FailsAt};
 ghost use Rattle.loading.specs.Loading.{RecordsDue, IsRefusal, StopsAt, most_bytes};
-ghost use Rattle.addr_bits.specs.Memory.{ErrorIs};
+ghost use Rattle.loading.specs.Memory.{ErrorIs};
 ghost use Rattle.loading.specs.Reading.{ComesTo, HasTaken, EndsTaken, HasRead, HasLoaded};
 
-use crate::Stop;
 use crate::stop::refused;
-use addr_bits::OrMemory;
+use crate::text::copied;
+use crate::{OrMemory, Refusal, Stop};
 use dns_name::Name;
 use master_reader::{Kind, Reader, Records, ZoneFault};
-use refusals::{Refusal, copied};
 use spfc_outer::{Files, OpenFault, Opened};
 use std::alloc::{AllocError, Global};
 

@@ -1,9 +1,9 @@
 //! Why the files of a job are not read.
 ghost use Rattle.std.specs.Prelude.{◌≡◌};
-ghost use Rattle.addr_bits.specs.declared.memory.OrMemory.TheVariants.{Error};
+ghost use Rattle.loading.specs.declared.memory.OrMemory.TheVariants.{Error};
 
-use addr_bits::{Bytes, OrMemory};
-use refusals::Refusal;
+use crate::{OrMemory, Refusal};
+use addr_bits::Bytes;
 
 /// Why the files of a job are not read.
 #[derive(Debug, Drop)]

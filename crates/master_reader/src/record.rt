@@ -42,7 +42,7 @@ impl Body {
         match self {
             Body::A(number) => Some(Address::V4(*number)),
             Body::Aaaa(number) => Some(Address::V6(*number)),
-            Body::Mx(_, _) | Body::Txt(_) | Body::Cname(_) | Body::Ns(_) | Body::Other => None,
+            _ => None,
         }
     }
 }

@@ -18,7 +18,7 @@ pub struct PolicyVerdicts {
     /// The verdict at each address.
     pub tries: VerdictTries,
     /// Each question that the evaluation of some address asks, once, by the bytes of the printed name and then by A,
-    /// AAAA, MX, TXT, REVERSE4, REVERSE6.
+    /// AAAA, MX, TXT.
     pub asked: Questions,
 }
 

@@ -12,7 +12,7 @@ use Rattle.zone_writer.specs.Written.{record_owner}
 use Rattle.published_records.specs.Published.{AreNamesFree, Stands}
 use Rattle.published_records.proofs.Publishing.{fragment_stands}
 use Rattle.published_records.proofs.RecordChains.{next_named}
-use Rattle.refusals.specs.declared.refusal.Refusal.{Refusal}
+use Rattle.loading.specs.declared.refusal.Refusal.{Refusal}
 use Rattle.publishing.specs.Published.{AreFree, is_name_taken, IsBestPublication, DueIsBest}
 use Rattle.publishing.specs.Published.{ListDue, too_big, taken, written, alias, packed}
 use Rattle.publishing.specs.Settings.{AreLegal}

@@ -8,8 +8,8 @@ use Rattle.spf_model.specs.declared.outcome.Outcome.{Outcome}
 use Rattle.spf_model.specs.Run.{says}
 use Rattle.policy_verdicts.specs.Policy.{verdict_at}
 use Rattle.policy_verdicts.proofs.OneAnswer.{one_refused, never_both, one_verdict}
-use Rattle.refusals.specs.declared.refusal.Refusal.{Refusal}
-use Rattle.refusals.specs.declared.refusal.Refusal.TheVariants.{NoVerdict}
+use Rattle.loading.specs.declared.refusal.Refusal.{Refusal}
+use Rattle.loading.specs.declared.refusal.Refusal.TheVariants.{NoVerdict}
 use Rattle.publishing.specs.Policy.{PolicyDue, refused, kept}
 use Rattle.publishing.specs.declared.settings.ChainSettings.{ChainSettings}
 use Rattle.publishing.proofs.OnePublication.{one_publication}

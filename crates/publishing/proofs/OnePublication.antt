@@ -9,8 +9,8 @@ use Rattle.fewest_terms.specs.Tables.{need_rows}
 use Rattle.fewest_terms.specs.Totals.{total}
 use Rattle.fewest_terms.proofs.Whole.{below_all}
 use Rattle.record_pack.specs.Records.{RiseTo, RecordsFit, TakeMost}
-use Rattle.refusals.specs.declared.refusal.Refusal.{Refusal}
-use Rattle.refusals.specs.declared.refusal.Refusal.TheVariants.{Taken}
+use Rattle.loading.specs.declared.refusal.Refusal.{Refusal}
+use Rattle.loading.specs.declared.refusal.Refusal.TheVariants.{Taken}
 use Rattle.publishing.specs.Published.{IsChosenCut, IsFirstTaken, AreFree, fragment_of, name_text, OnePublication}
 use Rattle.publishing.specs.Published.{ListDue, too_big, taken, written, alias, packed}
 use Rattle.publishing.specs.declared.settings.ChainSettings.{ChainSettings}

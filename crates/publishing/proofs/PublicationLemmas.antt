@@ -14,9 +14,8 @@ use Rattle.fewest_terms.specs.Leaves.{verdict_at as trie_verdict}
 use Rattle.fewest_terms.specs.Row.{NeedRow}
 use Rattle.fewest_terms.specs.Tables.{need_rows}
 use Rattle.fewest_terms.specs.Totals.{total}
-use Rattle.refusals.specs.declared.refusal.Refusal.{Refusal}
-use Rattle.addr_bits.specs.Memory.{ErrorIs}
-use Rattle.refusals.specs.Refusals.{refusal_of}
+use Rattle.loading.specs.declared.refusal.Refusal.{Refusal}
+use Rattle.loading.specs.Memory.{ErrorIs, refusal_of}
 use Rattle.policy_verdicts.specs.Policy.{IsPolicyFault, KeepVerdicts}
 use Rattle.publishing.specs.Policy.{PolicyDue, refused, kept}
 use Rattle.publishing.specs.Published.{IsChosenCut, IsTooBig, IsFirstTakenRefusal, is_record_taken}

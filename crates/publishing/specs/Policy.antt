@@ -14,8 +14,8 @@ use Rattle.spf_model.specs.declared.outcome.Outcome.{Outcome}
 use Rattle.policy_verdicts.specs.Policy.{IsLeastRefused, verdict_at}
 use Rattle.published_records.specs.Published.{Stands}
 use Rattle.published_records.specs.Standing.{HoldsName}
-use Rattle.refusals.specs.declared.refusal.Refusal.{Refusal}
-use Rattle.refusals.specs.declared.refusal.Refusal.TheVariants.{NoVerdict}
+use Rattle.loading.specs.declared.refusal.Refusal.{Refusal}
+use Rattle.loading.specs.declared.refusal.Refusal.TheVariants.{NoVerdict}
 use Rattle.publishing.specs.Published.{PublicationDue, IsBestPublication}
 use Rattle.publishing.specs.Settings.{AreLegal}
 use Rattle.publishing.specs.declared.settings.ChainSettings.{ChainSettings}

@@ -17,8 +17,8 @@ use Rattle.record_pack.specs.Records.{record_name, IsFittingCut, HasFewest, Take
 use Rattle.zone_writer.specs.Fragment.{fragment_text}
 use Rattle.published_records.specs.Published.{Stands}
 use Rattle.published_records.specs.Standing.{HoldsName}
-use Rattle.refusals.specs.declared.refusal.Refusal.{Refusal}
-use Rattle.refusals.specs.declared.refusal.Refusal.TheVariants.{Alias, Taken, TooBig}
+use Rattle.loading.specs.declared.refusal.Refusal.{Refusal}
+use Rattle.loading.specs.declared.refusal.Refusal.TheVariants.{Alias, Taken, TooBig}
 use Rattle.publishing.specs.Settings.{AreLegal}
 use Rattle.publishing.specs.declared.settings.ChainSettings.{ChainSettings}
 

@@ -1,14 +1,14 @@
 //! The names of the records behind the first.
 ghost use Rattle.std.specs.Prelude.{◌≡◌, ◌≤◌, IfOk, IfErr};
 ghost use Rattle.dns_name.specs.Name.{name_of_text};
-ghost use Rattle.addr_bits.specs.Memory.{ErrorIs};
+ghost use Rattle.loading.specs.Memory.{ErrorIs};
 ghost use Rattle.publishing.specs.Published.{AreFree, IsFirstTakenRefusal, is_name_taken, name_text};
 
 use crate::ChainSettings;
-use addr_bits::{Bytes, OrMemory};
+use addr_bits::Bytes;
 use dns_name::Name;
+use loading::{OrMemory, Refusal};
 use record_pack::push_name;
-use refusals::Refusal;
 use std::alloc::{AllocError, Global};
 use zone_answers::Zones;
 

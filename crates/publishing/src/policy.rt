@@ -4,13 +4,13 @@ ghost use Rattle.dns_name.specs.Name.{name_of_text};
 ghost use Rattle.spf_model.specs.Result.{AreModest};
 ghost use Rattle.spf_model.specs.Run.{says};
 ghost use Rattle.symbolic_check.specs.Evaluation.{AreAsked};
-ghost use Rattle.addr_bits.specs.Memory.{ErrorIs};
+ghost use Rattle.loading.specs.Memory.{ErrorIs};
 ghost use Rattle.publishing.specs.Policy.{PolicyDue};
 
 use crate::{ChainSettings, publish};
-use addr_bits::{Bytes, OrMemory};
+use addr_bits::Bytes;
+use loading::{OrMemory, Refusal};
 use policy_verdicts::policy_verdicts;
-use refusals::Refusal;
 use spf_model::Limits;
 use std::alloc::Global;
 use zone_answers::{Questions, Zones};
@@ -21,7 +21,7 @@ pub struct Publication {
     /// The fragment.
     pub bytes: Bytes,
     /// Each question that check_host asks for some address, once, by the bytes of the printed name and then by A, AAAA,
-    /// MX, TXT, REVERSE4, REVERSE6.
+    /// MX, TXT.
     pub asked: Questions,
 }
 
@@ -40,8 +40,7 @@ pub fn publish_policy(
     ensures asked { IfOk result (λ found. AreAsked (says zones.now) limits settings.now.domain.text found.asked) }
     ensures refused { IfErr result (ErrorIs (λ why. PolicyDue settings.now limits zones.now (Err why))) }
 {
-    let domain = settings.domain.text.as_slice();
-    let found = policy_verdicts(alloc, zones, limits, domain).map_err(Refusal::from_fault)?;
+    let found = policy_verdicts(alloc, zones, limits, settings.domain.text.as_slice())?;
     match publish(alloc, zones, settings, &found.tries) {
         Ok(bytes) => Ok(Publication {
             bytes,

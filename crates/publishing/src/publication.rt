@@ -3,15 +3,15 @@ ghost use Rattle.std.specs.Prelude.{◌≡◌, Ok, Err, IfOk, IfErr};
 ghost use Rattle.dns_name.specs.Name.{name_of_text};
 ghost use Rattle.fewest_terms.specs.Leaves.{verdict_at as trie_verdict};
 ghost use Rattle.zone_answers.specs.Names.{other_text_of};
-ghost use Rattle.addr_bits.specs.Memory.{ErrorIs};
+ghost use Rattle.loading.specs.Memory.{ErrorIs};
 ghost use Rattle.publishing.specs.Published.{IsChosenCut, IsTooBig, ListDue, PublicationDue};
 
 use crate::ChainSettings;
 use crate::names::refuse_taken;
-use addr_bits::{Bytes, OrMemory};
+use addr_bits::Bytes;
 use fewest_terms::{Shortest, fewest};
+use loading::{OrMemory, Refusal, copied};
 use record_pack::{Cut, PackFault, pack};
-use refusals::{Refusal, copied};
 use spf_grammar::FlatTerm;
 use std::alloc::Global;
 use verdict_map::VerdictTries;

@@ -37,11 +37,7 @@ impl Mechanism {
             Mechanism::All => Some(Net::All),
             Mechanism::Ip4(prefix) => Some(Net::V4(*prefix)),
             Mechanism::Ip6(prefix) => Some(Net::V6(*prefix)),
-            Mechanism::Include(_)
-            | Mechanism::A(_, _, _)
-            | Mechanism::Mx(_, _, _)
-            | Mechanism::Ptr(_)
-            | Mechanism::Exists(_) => None,
+            _ => None,
         }
     }
 }

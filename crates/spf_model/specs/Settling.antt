@@ -1,6 +1,6 @@
 -- The parts of a term that every address of a family has alike: they ask, and hand on a result or end (the project's
 -- own form).
-use Rattle.std.specs.Prelude.{◌≡◌, List, ◌++◌, Contains, ◌⊎◌, ◌↔◌, Result, Ok, Err}
+use Rattle.std.specs.Prelude.{List, Contains, ◌⊎◌, ◌↔◌, Result, Ok, Err}
 use Rattle.addr_bits.specs.declared.address.Address.{Address}
 use Rattle.zone_answers.specs.declared.answer.Question.{Question}
 use Rattle.spf_model.specs.declared.outcome.Counts.{Counts}
@@ -47,15 +47,3 @@ Settles {A} zones part asked more (Err Memory) = Unit {0}
 abbrev pub SettlesEach :
     {A : Type 0} → AnsweringEach → PartOf A → List Question → List Question → Result A Halt → Type 0
 SettlesEach zones part asked more result = (a : Address) → Settles (zones a) part asked more result
-
--- without memory the questions are as they were
-abbrev pub StaysWithoutMemory : {A : Type 0} → List Question → List Question → Result A Halt → Type 0
-StaysWithoutMemory asked more (Ok x) = Unit {0}
-StaysWithoutMemory asked more (Err (Ended outcome)) = Unit {0}
-StaysWithoutMemory asked more (Err Memory) = more ≡ asked
-
--- what a part came to that began with no question, after its questions were added to those asked before, or after there
--- was no memory for them
-abbrev pub IsNoted : {A : Type 0} → (asked added more : List Question) → (part result : Result A Halt) → Type 0
-IsNoted asked added more part result =
-    ((result ≡ part) × (more ≡ asked ++ added)) ⊎ ((result ≡ Err Memory) × (more ≡ asked))

@@ -13,14 +13,14 @@ use zone_answers::Answer;
 
 /// How many first bits must agree (RFC 7208, section 5.6).
 #[derive(Clone, Copy)]
-pub struct PrefixLengths {
+pub struct Lens {
     /// For IPv4: 0 to 32.
     pub len4: u32,
     /// For IPv6: 0 to 128.
     pub len6: u32,
 }
 
-impl PrefixLengths {
+impl Lens {
     /// How many first bits of the addresses of a family must agree.
     pub fn of(self, family: Family) -> u32
         ensures { result ≡ judging.len_in family self.len4 self.len6 }
@@ -72,32 +72,28 @@ fn is_found(answer: &Answer) -> bool
 }
 
 /// Whether the address agrees with the record's in the first bits.
-fn body_agrees(lengths: PrefixLengths, address: Address, body: &Body) -> bool
-    requires len4 { lengths.len4 ≤ 32 }
-    requires len6 { lengths.len6 ≤ 128 }
-    ensures { result ≡ judging.body_agrees lengths.len4 lengths.len6 address body.now }
+fn body_agrees(lens: Lens, address: Address, body: &Body) -> bool
+    requires len4 { lens.len4 ≤ 32 }
+    requires len6 { lens.len6 ≤ 128 }
+    ensures { result ≡ judging.body_agrees lens.len4 lens.len6 address body.now }
 {
     match (address, body) {
-        (Address::V4(a), Body::A(n)) => Prefix::new(*n, lengths.len4).covers(a),
-        (Address::V6(a), Body::Aaaa(n)) => Prefix::new(*n, lengths.len6).covers(a),
-        (Address::V4(_), Body::Aaaa(_)) | (Address::V6(_), Body::A(_)) => false,
-        (
-            Address::V4(_) | Address::V6(_),
-            Body::Mx(_, _) | Body::Txt(_) | Body::Cname(_) | Body::Ns(_) | Body::Other,
-        ) => false,
+        (Address::V4(a), Body::A(n)) => Prefix::new(*n, lens.len4).covers(a),
+        (Address::V6(a), Body::Aaaa(n)) => Prefix::new(*n, lens.len6).covers(a),
+        _ => false,
     }
 }
 
 /// Whether one of the addresses that were found agrees.
-fn answer_agrees(lengths: PrefixLengths, address: Address, answer: &Answer) -> bool
-    requires len4 { lengths.len4 ≤ 32 }
-    requires len6 { lengths.len6 ≤ 128 }
-    ensures { result ≡ list_any (judging.body_agrees lengths.len4 lengths.len6 address) (answer_bodies answer.now) }
+fn answer_agrees(lens: Lens, address: Address, answer: &Answer) -> bool
+    requires len4 { lens.len4 ≤ 32 }
+    requires len6 { lens.len6 ≤ 128 }
+    ensures { result ≡ list_any (judging.body_agrees lens.len4 lens.len6 address) (answer_bodies answer.now) }
 {
     answer
         .bodies()
         .iter()
-        .any(|body| body_agrees(lengths, address, body))
+        .any(|body| body_agrees(lens, address, body))
 }
 
 impl Gathered {
@@ -122,30 +118,26 @@ impl Gathered {
     {
         match mechanism {
             Mechanism::A(_, len4, len6) | Mechanism::Mx(_, len4, len6) => {
-                let lengths = PrefixLengths {
+                let lens = Lens {
                     len4: *len4,
                     len6: *len6,
                 };
-                self.some_agrees(lengths, address)
+                self.some_agrees(lens, address)
             }
             Mechanism::Exists(_) => self.some_found(),
-            Mechanism::All
-            | Mechanism::Include(_)
-            | Mechanism::Ptr(_)
-            | Mechanism::Ip4(_)
-            | Mechanism::Ip6(_) => false,
+            _ => false,
         }
     }
 
     /// Whether one of the addresses that were found agrees.
-    fn some_agrees(&self, lengths: PrefixLengths, address: Address) -> bool
-        requires len4 { lengths.len4 ≤ 32 }
-        requires len6 { lengths.len6 ≤ 128 }
-        ensures { result ≡ judging.some_agrees lengths.len4 lengths.len6 address self.now.answers }
+    fn some_agrees(&self, lens: Lens, address: Address) -> bool
+        requires len4 { lens.len4 ≤ 32 }
+        requires len6 { lens.len6 ≤ 128 }
+        ensures { result ≡ judging.some_agrees lens.len4 lens.len6 address self.now.answers }
     {
         self.answers
             .as_slice()
             .iter()
-            .any(|answer| answer_agrees(lengths, address, answer))
+            .any(|answer| answer_agrees(lens, address, answer))
     }
 }

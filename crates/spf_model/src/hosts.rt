@@ -7,12 +7,11 @@ ghost use Rattle.spf_model.specs.Run.{says};
 ghost use Rattle.spf_model.specs.Judging as judging;
 ghost use Rattle.spf_model.specs.Leads.{common_of, site_of, HostsFit, MechanismFits, TargetFits};
 ghost use Rattle.spf_grammar.specs.declared.policy.Mechanism.TheVariants as mechanism;
-ghost use Rattle.spf_model.specs.Settling.{SettlesEach, StaysWithoutMemory};
+ghost use Rattle.spf_model.specs.Settling.{SettlesEach};
 
 use crate::Cause;
 use crate::context::{RecordContext, cause_of, name_of};
 use crate::gathered::{Gathered, Hosts, is_void};
-use crate::noting::note;
 use crate::outcome::Halt;
 use addr_bits::Items;
 use dns_name::Name;
@@ -32,13 +31,7 @@ fn exchange_of(body: &Body) -> Option<&Name>
 {
     match body {
         Body::Mx(_, name) if name.label_count() > 0 => Some(name),
-        Body::Mx(_, _)
-        | Body::A(_)
-        | Body::Aaaa(_)
-        | Body::Txt(_)
-        | Body::Cname(_)
-        | Body::Ns(_)
-        | Body::Other => None,
+        _ => None,
     }
 }
 
@@ -183,8 +176,11 @@ impl RecordContext<'_> {
         in_common(self.gather_target(term, QKind::A, Some(spec), asked))
     }
 
-    /// The same, for a list of questions that is dropped where there is no memory.
-    fn gather_anew(
+    /// What a mechanism gathers for every address of the family alike, once its lookup is counted: `a` and `mx` ask for
+    /// addresses of the family (RFC 7208, sections 5.3 and 5.4), and `exists` for those of IPv4 (section 5.7), at its
+    /// target or at reversed names, whose question is not noted. No other mechanism asks for hosts. Each other question
+    /// is noted. `Halt::Memory` where there is no memory.
+    pub fn gather(
         &self,
         term: u32,
         mechanism: &Mechanism,
@@ -202,35 +198,10 @@ impl RecordContext<'_> {
             }
             Mechanism::Mx(spec, _, _) => in_common(self.gather_mx(term, spec.as_ref(), asked)),
             Mechanism::Exists(spec) => self.gather_exists(term, spec, asked),
-            Mechanism::All
-            | Mechanism::Include(_)
-            | Mechanism::Ptr(_)
-            | Mechanism::Ip4(_)
-            | Mechanism::Ip6(_) => Ok(Hosts::Common(Gathered {
+            _ => Ok(Hosts::Common(Gathered {
                 void: false,
                 answers: Items::new(self.alloc),
             })),
         }
-    }
-
-    /// What a mechanism gathers for every address of the family alike, once its lookup is counted: `a` and `mx` ask for
-    /// addresses of the family (RFC 7208, sections 5.3 and 5.4), and `exists` for those of IPv4 (section 5.7), at its
-    /// target or at reversed names, whose question is not noted. No other mechanism asks for hosts. Each other question
-    /// is noted. `Halt::Memory` where there is no memory, and then `asked` is as it was.
-    pub fn gather(
-        &self,
-        term: u32,
-        mechanism: &Mechanism,
-        asked: &mut Questions,
-    ) -> Result<Hosts, Halt>
-        requires { MechanismFits mechanism.now }
-        ensures gathered { SettlesEach (says self.now.zones.now)
-            (judging.gather_common (site_of self.now) term mechanism.now) asked.old asked.new result }
-        ensures fit { IfOk result (HostsFit mechanism.now) }
-        ensures stays { StaysWithoutMemory asked.old asked.new result }
-    {
-        let mut added = Questions::new(self.alloc);
-        let gathered = self.gather_anew(term, mechanism, &mut added);
-        note(asked, added, gathered)
     }
 }

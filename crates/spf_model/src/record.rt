@@ -4,12 +4,11 @@ ghost use Rattle.std.specs.List.{concat};
 ghost use Rattle.spf_model.specs.Run.{says};
 ghost use Rattle.spf_model.specs.Check as check;
 ghost use Rattle.spf_model.specs.Leads.{TermsFit};
-ghost use Rattle.spf_model.specs.Settling.{SettlesEach, StaysWithoutMemory};
+ghost use Rattle.spf_model.specs.Settling.{SettlesEach};
 ghost use Rattle.zone_answers.specs.declared.answer.Question.{Question as Asked};
 
 use crate::Cause;
 use crate::context::RecordContext;
-use crate::noting::note;
 use crate::outcome::Halt;
 use addr_bits::Bytes;
 use master_reader::{Body, Text};
@@ -84,8 +83,9 @@ impl RecordContext<'_> {
         }
     }
 
-    /// The same, for a list of questions that is dropped where there is no memory.
-    fn look_up_record(&self, asked: &mut Questions) -> Result<Terms, Halt>
+    /// The terms of the record at the domain, which has two or more labels (RFC 7208, sections 4.3 to 4.6).
+    /// `Halt::Memory` where there is no memory.
+    pub fn find_record(&self, asked: &mut Questions) -> Result<Terms, Halt>
         ensures found { SettlesEach (says self.now.zones.now)
             (check.with_record self.now.name.now) asked.old asked.new result }
         ensures fit { IfOk result TermsFit }
@@ -99,18 +99,5 @@ impl RecordContext<'_> {
             Answer::NoName | Answer::NoData => Err(self.nothing()),
             Answer::Found(bodies) => self.choose_record(bodies.as_slice()),
         }
-    }
-
-    /// The terms of the record at the domain, which has two or more labels (RFC 7208, sections 4.3 to 4.6).
-    /// `Halt::Memory` where there is no memory, and then `asked` is as it was.
-    pub fn find_record(&self, asked: &mut Questions) -> Result<Terms, Halt>
-        ensures found { SettlesEach (says self.now.zones.now)
-            (check.with_record self.now.name.now) asked.old asked.new result }
-        ensures fit { IfOk result TermsFit }
-        ensures stays { StaysWithoutMemory asked.old asked.new result }
-    {
-        let mut added = Questions::new(self.alloc);
-        let found = self.look_up_record(&mut added);
-        note(asked, added, found)
     }
 }

@@ -4,7 +4,6 @@ ghost use Rattle.spfc_words.specs.Words.{texts};
 ghost use Rattle.spfc_top.specs.AnyJob.{SpellsAny};
 ghost use Rattle.spfc_top.specs.declared.any_job.AnyJob.{AnyJob};
 
-use addr_bits::OrMemory;
 use job_check::Check;
 use job_compare::Compare;
 use job_compile::Compile;
@@ -15,8 +14,7 @@ use job_stale::Stale;
 use job_trial::Trial;
 use job_verify::Verify;
 use jobs::{Job, Output};
-use loading::Loaded;
-use refusals::Refusal;
+use loading::{Loaded, OrMemory, Refusal};
 use spfc_words::{Input, split_first};
 use std::alloc::{AllocError, Global};
 

@@ -5,7 +5,6 @@ ghost use Rattle.spf_model.specs.Result.{IsInOrder, kind_number};
 ghost use Rattle.zone_answers.specs.declared.answer.Question.{Question as Asked};
 ghost use Rattle.symbolic_check.specs.Keyed.{IsKeyOf};
 
-use addr_bits::for_proof;
 use std::alloc::{AllocError, Global};
 use std::collections::BTreeMap;
 use std::vec::Vec;
@@ -38,7 +37,7 @@ fn number_of(kind: AskKind) -> u32
 fn key_of(alloc: Global, question: &Question) -> Result<Key, AllocError>
     ensures { IfOk result (λ key. IsKeyOf question.now key) }
 {
-    for_proof(question.name.label_count());
+    let _labels = question.name.label_count();
     let text = question.name.write_text(alloc)?;
     Ok(Key {
         text,

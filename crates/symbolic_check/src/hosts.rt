@@ -25,7 +25,7 @@ use match_sets::match_family;
 use prefix_trie::TrieMap;
 use reverse_names::reverse_sets;
 use spf_grammar::{Mechanism, NetworkFamily, Verdict};
-use spf_model::{Cause, Gathered, Halt, Hosts, Outcome, PrefixLengths, RecordContext};
+use spf_model::{Cause, Gathered, Halt, Hosts, Lens, Outcome, RecordContext};
 use std::alloc::{AllocError, Global};
 use zone_answers::{Answer, AskKind, Bodies, Question, Questions};
 
@@ -55,16 +55,16 @@ fn one_answer(alloc: Global, answers: Items<Answer>) -> Result<Answer, AllocErro
 /// The addresses that agree with one that was found (RFC 7208, sections 5.3 and 5.4).
 fn agreeing<W: NetworkFamily>(
     alloc: Global,
-    lengths: PrefixLengths,
+    lens: Lens,
     answers: Items<Answer>,
 ) -> Result<TrieMap<W, bool>, AllocError>
-    requires len4 { lengths.len4 ≤ 32 }
-    requires len6 { lengths.len6 ≤ 128 }
+    requires len4 { lens.len4 ≤ 32 }
+    requires len6 { lens.len6 ≤ 128 }
     ensures { IfOk result (λ set. (a : ℕ) → a < 2 ^ W.BITS → value_at W.BITS set a ≡ Some
-        (judging.some_agrees lengths.len4 lengths.len6 (address_of W.family a) answers)) }
+        (judging.some_agrees lens.len4 lens.len6 (address_of W.family a) answers)) }
 {
     let found = one_answer(alloc, answers)?;
-    match_family(alloc, &found, lengths.of(W::family()))
+    match_family(alloc, &found, lens.of(W::family()))
 }
 
 /// The addresses that a mechanism matches by the answers of its hosts (RFC 7208, sections 5.3, 5.4 and 5.7).
@@ -79,18 +79,14 @@ fn met<W: NetworkFamily>(
 {
     match mechanism {
         Mechanism::A(_, len4, len6) | Mechanism::Mx(_, len4, len6) => {
-            let lengths = PrefixLengths {
+            let lens = Lens {
                 len4: *len4,
                 len6: *len6,
             };
-            agreeing(alloc, lengths, gathered.answers)
+            agreeing(alloc, lens, gathered.answers)
         }
         Mechanism::Exists(_) => TrieMap::whole(alloc, gathered.some_found()),
-        Mechanism::All
-        | Mechanism::Include(_)
-        | Mechanism::Ptr(_)
-        | Mechanism::Ip4(_)
-        | Mechanism::Ip6(_) => TrieMap::whole(alloc, false),
+        _ => TrieMap::whole(alloc, false),
     }
 }
 

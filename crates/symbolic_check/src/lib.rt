@@ -2,7 +2,7 @@
 #![tactic(auto)]
 
 mod asked;
-mod evaluation;
+mod both;
 mod hosts;
 mod laws;
 mod networks;
@@ -10,5 +10,5 @@ mod state;
 mod steps;
 mod walk;
 
-pub use evaluation::{Outcomes, evaluate};
+pub use both::{Both, evaluate};
 pub use laws::rests_on_asked;

@@ -42,7 +42,7 @@ fn set_term<W: NetworkFamily>(
 {
     match term {
         Term::Directive(verdict, mechanism) => set_network(found, part_of(mechanism), *verdict),
-        Term::Redirect(_) | Term::Exp(_) | Term::Unknown(_, _) => Ok(()),
+        _ => Ok(()),
     }
 }
 

@@ -30,15 +30,8 @@ fn is_row_term(term: &Term) -> bool
 {
     match term {
         Term::Directive(_, Mechanism::All | Mechanism::Ip4(_) | Mechanism::Ip6(_)) => true,
-        Term::Directive(
-            _,
-            Mechanism::Include(_)
-            | Mechanism::A(_, _, _)
-            | Mechanism::Mx(_, _, _)
-            | Mechanism::Ptr(_)
-            | Mechanism::Exists(_),
-        ) => false,
-        Term::Redirect(_) | Term::Exp(_) | Term::Unknown(_, _) => true,
+        Term::Directive(_, _) => false,
+        _ => true,
     }
 }
 

@@ -1,13 +1,16 @@
 -- The names at which something is lent, as they are listed.
-use Rattle.std.proofs.Common.{◌≡◌, ℕ, ◌+◌, ◌<◌, ◌≤◌, Bool, true, false, ◌||◌, ◌&&◌, List, [], ◌∷◌, ◌++◌, length, take, get_or, slice_get, None, Some, refl, subst, sym, ap, ◌∙◌, true≢false}
+use Rattle.std.proofs.Common.{◌≡◌, ℕ, ◌+◌, ◌<◌, ◌≤◌, Bool, true, false, ◌||◌, ◌&&◌, List, [], ◌∷◌, ◌++◌, length, take, get_or, slice_get, None, Some, refl, subst, sym, ap, ap₂, ◌∙◌, true≢false}
 use Rattle.std.specs.List.{list_any}
 use Rattle.std.proofs.lemmas.List.{take_all}
 use Rattle.std.proofs.lemmas.List.Folds.{list_any_more}
 use Rattle.dns_name.specs.Name.{is_under}
 use Rattle.master_reader.specs.declared.record.Record.{Record}
+use Rattle.zone_answers.specs.declared.zone.Lent.{Lent}
+use Rattle.zone_answers.specs.declared.zone.Lent.TheVariants.{All}
 use Rattle.zone_answers.specs.Zone.{Zone}
 use Rattle.zone_answers.specs.Same.{same_name}
-use Rattle.zone_answers.specs.Reversed.{lends_at}
+use Rattle.zone_answers.specs.Index.{counts, stands_at}
+use Rattle.zone_answers.specs.Reversed.{AreNamesUnder}
 use Rattle.zone_answers.proofs.Nodes.{same_true, same_self}
 use Rattle.zone_answers.proofs.Indexes.{any_push}
 use Rattle.zone_answers.specs.declared.order.Entry.{Entry}
@@ -67,54 +70,59 @@ passed_under old owner top h name = passed old owner top true h name ∙ ap (λ 
 turned : (a b : List (List ℕ)) → same_name a b ≡ same_name b a
 turned a b = both_same (same_name a b) (same_name b a) (λ s. same_self b a (sym (same_true a b s))) (λ s. same_self a b (sym (same_true b a s)))
 
-pub owner_pushed : (old new : List (List (List ℕ))) (owner : List (List ℕ)) → new ≡ old ++ owner ∷ []
-    → (name : List (List ℕ)) → listed new name ≡ (listed old name || same_name owner name)
-owner_pushed old new owner is name =
+pub owner_pushed : (old new : List (List (List ℕ))) (owner : List (List ℕ)) (c : Bool) → new ≡ old ++ owner ∷ [] → c ≡ true
+    → (name : List (List ℕ)) → listed new name ≡ (listed old name || (same_name owner name && c))
+owner_pushed old new owner c is h name =
     ap (list_any (same_name name)) is ∙ any_push (same_name name) old owner
-    ∙ ap (λ b. listed old name || b) (turned name owner)
+    ∙ ap (λ b. listed old name || b) (turned name owner ∙ sym (and_true (same_name owner name)) ∙ ap (λ t. same_name owner name && t) (sym h))
+
+pub owner_passed : (old : List (List (List ℕ))) (owner : List (List ℕ)) (c : Bool) → c ≡ false
+    → (name : List (List ℕ)) → listed old name ≡ (listed old name || (same_name owner name && c))
+owner_passed old owner c h name =
+    sym (ap (λ b. listed old name || b) (ap (λ t. same_name owner name && t) h ∙ and_false (same_name owner name)) ∙ or_no (listed old name))
 
 -- ---- the origin and the owners of a zone
 
 -- what an entry tells of a name
-abbrev pub tells : List Record → List (List ℕ) → Entry → Bool
-tells records name e = told_at (λ r. same_name r.owner name) (slice_get records e.place)
+abbrev pub tells : Lent → List Record → List (List ℕ) → Entry → Bool
+tells lent records name e = told_at (λ r. same_name r.owner name && counts lent r) (slice_get records e.place)
 
-pub origin_first : (origin held top : List (List ℕ)) (entries : List Entry) (records : List Record) (first new : List (List (List ℕ))) → held ≡ origin
+pub origin_first : (origin held top : List (List ℕ)) (entries : List Entry) (lent : Lent) (records : List Record) (first new : List (List (List ℕ))) → held ≡ origin
     → ((name : List (List ℕ)) → listed new name ≡ (listed first name || (same_name held name && is_under name top)))
-    → (name : List (List ℕ)) → listed new name ≡ ((listed first name || (same_name origin name && is_under name top)) || list_any (tells records name) (take 0 entries))
-origin_first origin held top entries records first new e h name =
+    → (name : List (List ℕ)) → listed new name ≡ ((listed first name || (same_name origin name && is_under name top)) || list_any (tells lent records name) (take 0 entries))
+origin_first origin held top entries lent records first new e h name =
     h name ∙ ap (λ (n : List (List ℕ)). listed first name || (same_name n name && is_under name top)) e ∙ sym (or_no (listed first name || (same_name origin name && is_under name top)))
 
 or_three : (a b c : Bool) → ((a || b) || c) ≡ (a || (b || c))
 or_three true b c = refl
 or_three false b c = refl
 
-entry_step : (records : List Record) (entries : List Entry) (i : ℕ) (e : Entry) (front : Bool) (name : List (List ℕ)) → i < length entries → e ≡ get_or entries i e
-    → ((front || list_any (tells records name) (take i entries)) || tells records name e) ≡ (front || list_any (tells records name) (take (i + 1) entries))
-entry_step records entries i e front name lt is =
-    or_three front (list_any (tells records name) (take i entries)) (tells records name e)
-    ∙ ap (λ b. front || b) (ap (λ (x : Entry). list_any (tells records name) (take i entries) || tells records name x) is ∙ sym (list_any_more (tells records name) entries i e lt))
+entry_step : (lent : Lent) (records : List Record) (entries : List Entry) (i : ℕ) (e : Entry) (front : Bool) (name : List (List ℕ)) → i < length entries → e ≡ get_or entries i e
+    → ((front || list_any (tells lent records name) (take i entries)) || tells lent records name e) ≡ (front || list_any (tells lent records name) (take (i + 1) entries))
+entry_step lent records entries i e front name lt is =
+    or_three front (list_any (tells lent records name) (take i entries)) (tells lent records name e)
+    ∙ ap (λ b. front || b) (ap (λ (x : Entry). list_any (tells lent records name) (take i entries) || tells lent records name x) is ∙ sym (list_any_more (tells lent records name) entries i e lt))
 
-pub entry_more : (origin top : List (List ℕ)) (records : List Record) (entries : List Entry) (i : ℕ) (e : Entry) (r : Record) (first old new : List (List (List ℕ))) → i < length entries → e ≡ get_or entries i e
+pub entry_more : (lent : Lent) (origin top : List (List ℕ)) (records : List Record) (entries : List Entry) (i : ℕ) (e : Entry) (r : Record) (first old new : List (List (List ℕ))) → i < length entries → e ≡ get_or entries i e
     → Some r ≡ slice_get records e.place
-    → ((name : List (List ℕ)) → listed old name ≡ ((listed first name || (same_name origin name && is_under name top)) || list_any (tells records name) (take i entries)))
-    → ((name : List (List ℕ)) → listed new name ≡ (listed old name || (same_name r.owner name)))
-    → (name : List (List ℕ)) → listed new name ≡ ((listed first name || (same_name origin name && is_under name top)) || list_any (tells records name) (take (i + 1) entries))
-entry_more origin top records entries i e r first old new lt is at h k name =
-    k name ∙ ap (λ b. b || (same_name r.owner name)) (h name)
-    ∙ ap (λ o. ((listed first name || (same_name origin name && is_under name top)) || list_any (tells records name) (take i entries)) || told_at (λ s. same_name s.owner name) o) at
-    ∙ entry_step records entries i e (listed first name || (same_name origin name && is_under name top)) name lt is
+    → ((name : List (List ℕ)) → listed old name ≡ ((listed first name || (same_name origin name && is_under name top)) || list_any (tells lent records name) (take i entries)))
+    → ((name : List (List ℕ)) → listed new name ≡ (listed old name || (same_name r.owner name && counts lent r)))
+    → (name : List (List ℕ)) → listed new name ≡ ((listed first name || (same_name origin name && is_under name top)) || list_any (tells lent records name) (take (i + 1) entries))
+entry_more lent origin top records entries i e r first old new lt is at h k name =
+    k name ∙ ap (λ b. b || (same_name r.owner name && counts lent r)) (h name)
+    ∙ ap (λ o. ((listed first name || (same_name origin name && is_under name top)) || list_any (tells lent records name) (take i entries)) || told_at (λ s. same_name s.owner name && counts lent s) o) at
+    ∙ entry_step lent records entries i e (listed first name || (same_name origin name && is_under name top)) name lt is
 
-pub entry_none : (origin top : List (List ℕ)) (records : List Record) (entries : List Entry) (i : ℕ) (e : Entry) (first old new : List (List (List ℕ))) → i < length entries → e ≡ get_or entries i e
+pub entry_none : (lent : Lent) (origin top : List (List ℕ)) (records : List Record) (entries : List Entry) (i : ℕ) (e : Entry) (first old new : List (List (List ℕ))) → i < length entries → e ≡ get_or entries i e
     → None ≡ slice_get records e.place
-    → ((name : List (List ℕ)) → listed old name ≡ ((listed first name || (same_name origin name && is_under name top)) || list_any (tells records name) (take i entries)))
+    → ((name : List (List ℕ)) → listed old name ≡ ((listed first name || (same_name origin name && is_under name top)) || list_any (tells lent records name) (take i entries)))
     → new ≡ old
-    → (name : List (List ℕ)) → listed new name ≡ ((listed first name || (same_name origin name && is_under name top)) || list_any (tells records name) (take (i + 1) entries))
-entry_none origin top records entries i e first old new lt is at h k name =
+    → (name : List (List ℕ)) → listed new name ≡ ((listed first name || (same_name origin name && is_under name top)) || list_any (tells lent records name) (take (i + 1) entries))
+entry_none lent origin top records entries i e first old new lt is at h k name =
     ap (λ (l : List (List (List ℕ))). listed l name) k ∙ h name
-    ∙ sym (or_no ((listed first name || (same_name origin name && is_under name top)) || list_any (tells records name) (take i entries)))
-    ∙ ap (λ o. ((listed first name || (same_name origin name && is_under name top)) || list_any (tells records name) (take i entries)) || told_at (λ s. same_name s.owner name) o) at
-    ∙ entry_step records entries i e (listed first name || (same_name origin name && is_under name top)) name lt is
+    ∙ sym (or_no ((listed first name || (same_name origin name && is_under name top)) || list_any (tells lent records name) (take i entries)))
+    ∙ ap (λ o. ((listed first name || (same_name origin name && is_under name top)) || list_any (tells lent records name) (take i entries)) || told_at (λ s. same_name s.owner name && counts lent s) o) at
+    ∙ entry_step lent records entries i e (listed first name || (same_name origin name && is_under name top)) name lt is
 
 join : (a o q u : Bool) → ((a || (o && u)) || (q && u)) ≡ (a || ((o || q) && u))
 join true o q u = refl
@@ -126,16 +134,16 @@ join false o q u = more_zones o q u
     more_zones true false false = refl
     more_zones false x u = refl
 
-pub entries_all : (zone : Zone) (top : List (List ℕ)) (records : List Record) (order found : List Entry) (i : ℕ) (first new : List (List (List ℕ))) → length found ≤ i → records ≡ zone.records → ArePlaced records order
+pub entries_all : (lent : Lent) (zone : Zone) (top : List (List ℕ)) (records : List Record) (order found : List Entry) (i : ℕ) (first new : List (List (List ℕ))) → length found ≤ i → records ≡ zone.records → ArePlaced records order
     → ((test : Entry → Bool) → list_any (λ e. begins (key_of top) e.key.items && test e) order ≡ list_any test found)
-    → ((name : List (List ℕ)) → listed new name ≡ ((listed first name || (same_name zone.origin name && is_under name top)) || list_any (tells zone.records name) (take i found)))
-    → (name : List (List ℕ)) → listed new name ≡ (listed first name || (lends_at zone name && is_under name top))
-entries_all zone top records order found i first new le is placed front h name =
+    → ((name : List (List ℕ)) → listed new name ≡ ((listed first name || (same_name zone.origin name && is_under name top)) || list_any (tells lent zone.records name) (take i found)))
+    → (name : List (List ℕ)) → listed new name ≡ (listed first name || (stands_at lent zone name && is_under name top))
+entries_all lent zone top records order found i first new le is placed front h name =
     h name
     ∙ ap (λ b. (listed first name || (same_name zone.origin name && is_under name top)) || b)
-    (ap (list_any (tells zone.records name)) (take_all i found le)
-    ∙ owners_under zone.records order found top name (subst (λ (l : List Record). ArePlaced l order) is placed) front)
-    ∙ join (listed first name) (same_name zone.origin name) (list_any (λ r. same_name r.owner name) zone.records) (is_under name top)
+    (ap (list_any (tells lent zone.records name)) (take_all i found le)
+    ∙ owners_under zone.records order found top name (counts lent) (subst (λ (l : List Record). ArePlaced l order) is placed) front)
+    ∙ join (listed first name) (same_name zone.origin name) (list_any (λ r. same_name r.owner name && counts lent r) zone.records) (is_under name top)
 
 -- ---- the zones
 
@@ -145,18 +153,27 @@ more_zones true true false = refl
 more_zones true false false = refl
 more_zones false x u = refl
 
-pub zone_more : (top : List (List ℕ)) (zones : List Zone) (i : ℕ) (zone : Zone) (old new : List (List (List ℕ))) → i < length zones → zone ≡ get_or zones i zone
-    → ((name : List (List ℕ)) → listed old name ≡ (list_any (λ z. lends_at z name) (take i zones) && is_under name top))
-    → ((name : List (List ℕ)) → listed new name ≡ (listed old name || (lends_at zone name && is_under name top)))
-    → (name : List (List ℕ)) → listed new name ≡ (list_any (λ z. lends_at z name) (take (i + 1) zones) && is_under name top)
-zone_more top zones i zone old new lt e h k name =
-    let test : Zone → Bool = λ z. lends_at z name in
+pub zone_more : (lent : Lent) (top : List (List ℕ)) (zones : List Zone) (i : ℕ) (zone : Zone) (old new : List (List (List ℕ))) → i < length zones → zone ≡ get_or zones i zone
+    → ((name : List (List ℕ)) → listed old name ≡ (list_any (λ z. stands_at lent z name) (take i zones) && is_under name top))
+    → ((name : List (List ℕ)) → listed new name ≡ (listed old name || (stands_at lent zone name && is_under name top)))
+    → (name : List (List ℕ)) → listed new name ≡ (list_any (λ z. stands_at lent z name) (take (i + 1) zones) && is_under name top)
+zone_more lent top zones i zone old new lt e h k name =
+    let test : Zone → Bool = λ z. stands_at lent z name in
     k name ∙ ap (λ b. b || (test zone && is_under name top)) (h name)
     ∙ more_zones (list_any test (take i zones)) (test zone) (is_under name top)
     ∙ ap (λ b. b && is_under name top) (ap (λ (z : Zone). list_any test (take i zones) || test z) e ∙ sym (list_any_more test zones i zone lt))
 
-pub zones_all : (top : List (List ℕ)) (zones held : List Zone) (i : ℕ) (names : List (List (List ℕ))) → length zones ≤ i → zones ≡ held
-    → ((name : List (List ℕ)) → listed names name ≡ (list_any (λ z. lends_at z name) (take i zones) && is_under name top))
-    → (name : List (List ℕ)) → listed names name ≡ (list_any (λ z. lends_at z name) held && is_under name top)
-zones_all top zones held i names le e h name =
-    h name ∙ ap (λ (l : List Zone). list_any (λ z. lends_at z name) l && is_under name top) (take_all i zones le ∙ e)
+pub zones_all : (lent : Lent) (top : List (List ℕ)) (zones held : List Zone) (i : ℕ) (names : List (List (List ℕ))) → length zones ≤ i → zones ≡ held
+    → ((name : List (List ℕ)) → listed names name ≡ (list_any (λ z. stands_at lent z name) (take i zones) && is_under name top))
+    → (name : List (List ℕ)) → listed names name ≡ (list_any (λ z. stands_at lent z name) held && is_under name top)
+zones_all lent top zones held i names le e h name =
+    h name ∙ ap (λ (l : List Zone). list_any (λ z. stands_at lent z name) l && is_under name top) (take_all i zones le ∙ e)
+
+any_alike : {X : Type 0} (f g : X → Bool) (xs : List X) → ((x : X) → f x ≡ g x) → list_any f xs ≡ list_any g xs
+any_alike f g [] h = refl
+any_alike f g (x ∷ xs) h = ap₂ (λ (a b : Bool). a || b) (h x) (any_alike f g xs h)
+
+pub all_listed : (zones : List Zone) (top : List (List ℕ)) (names : List (List (List ℕ)))
+    → ((name : List (List ℕ)) → listed names name ≡ (list_any (λ z. stands_at All z name) zones && is_under name top)) → AreNamesUnder zones top names
+all_listed zones top names h name =
+    h name ∙ ap (λ b. b && is_under name top) (any_alike _ _ zones (λ z. ap (λ b. same_name z.origin name || b) (any_alike _ _ z.records (λ r. and_true (same_name r.owner name)))))

@@ -241,8 +241,8 @@ and_out q u (x ∷ xs) = ap (λ b. (q x && u) || b) (and_out q u xs) ∙ by (q x
     by true false false = refl
     by false u rest = refl
 
-owner_under : (owner name top : List (List ℕ)) → (is_under owner top && same_name owner name) ≡ (same_name owner name && is_under name top)
-owner_under owner name top = by (same_name owner name) refl
+owner_under : (owner name top : List (List ℕ)) (c : Bool) → (is_under owner top && (same_name owner name && c)) ≡ ((same_name owner name && c) && is_under name top)
+owner_under owner name top c = by (same_name owner name) refl
   where
     turned : (u c : Bool) → (u && c) ≡ (c && u)
     turned true true = refl
@@ -250,21 +250,21 @@ owner_under owner name top = by (same_name owner name) refl
     turned false true = refl
     turned false false = refl
 
-    by : (t : Bool) → same_name owner name ≡ t → (is_under owner top && same_name owner name) ≡ (same_name owner name && is_under name top)
+    by : (t : Bool) → same_name owner name ≡ t → (is_under owner top && (same_name owner name && c)) ≡ ((same_name owner name && c) && is_under name top)
     by true e =
-        ap₂ (λ (n : List (List ℕ)) (t : Bool). is_under n top && t) (same_true owner name e) e ∙ turned (is_under name top) true ∙ sym (ap (λ t. t && is_under name top) e)
-    by false e = ap (λ t. is_under owner top && t) e ∙ turned (is_under owner top) false ∙ sym (ap (λ t. t && is_under name top) e)
+        ap₂ (λ (n : List (List ℕ)) (t : Bool). is_under n top && (t && c)) (same_true owner name e) e ∙ turned (is_under name top) c ∙ sym (ap (λ t. (t && c) && is_under name top) e)
+    by false e = ap (λ t. is_under owner top && (t && c)) e ∙ turned (is_under owner top) false ∙ sym (ap (λ t. (t && c) && is_under name top) e)
 
 -- the entries that begin with the key of a top tell the owners at or below it
-pub owners_under : (records : List Record) (entries found : List Entry) (top name : List (List ℕ)) → ArePlaced records entries
+pub owners_under : (records : List Record) (entries found : List Entry) (top name : List (List ℕ)) (count : Record → Bool) → ArePlaced records entries
     → ((test : Entry → Bool) → list_any (λ e. begins (key_of top) e.key.items && test e) entries ≡ list_any test found)
-    → list_any (λ e. told_at (λ r. same_name r.owner name) (slice_get records e.place)) found ≡ (list_any (λ r. same_name r.owner name) records && is_under name top)
-owners_under records entries found top name placed front =
-    let test : Record → Bool = λ r. same_name r.owner name in
+    → list_any (λ e. told_at (λ r. same_name r.owner name && count r) (slice_get records e.place)) found ≡ (list_any (λ r. same_name r.owner name && count r) records && is_under name top)
+owners_under records entries found top name count placed front =
+    let test : Record → Bool = λ r. same_name r.owner name && count r in
     sym (front (λ e. told_at test (slice_get records e.place)))
     ∙ placed (λ key n. begins (key_of top) key && told_at test (slice_get records n))
     ∙ placed_tests (begins (key_of top)) test records [] records 0 refl refl
-    ∙ any_same_tests _ _ records (λ r. ap (λ b. b && test r) (key_under r.owner top) ∙ owner_under r.owner name top)
+    ∙ any_same_tests _ _ records (λ r. ap (λ b. b && test r) (key_under r.owner top) ∙ owner_under r.owner name top (count r))
     ∙ and_out test (is_under name top) records
 
 -- ---- one more record

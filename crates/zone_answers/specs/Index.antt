@@ -13,6 +13,8 @@ use Rattle.zone_answers.specs.declared.answer.QKind.TheVariants as kinds
 use Rattle.zone_answers.specs.declared.node.Chosen.{Chosen}
 use Rattle.zone_answers.specs.declared.node.Chosen.TheVariants.{Every, Asked, Aliases}
 use Rattle.zone_answers.specs.declared.node.Node.{Node}
+use Rattle.zone_answers.specs.declared.zone.Lent.{Lent}
+use Rattle.zone_answers.specs.declared.zone.Lent.TheVariants.{All, Parts}
 use Rattle.zone_answers.specs.Zone.{Zone}
 use Rattle.zone_answers.specs.Same.{same_name, distinct_records}
 use Rattle.zone_answers.specs.declared.order.Entry.{Entry}
@@ -132,3 +134,13 @@ bodies_at_places records places = filter_map (body_at records) places
 abbrev pub outcome_of : (List (List ℕ) → Answer) → Step → Answer
 outcome_of follow (Known answer) = answer
 outcome_of follow (Alias target) = follow target
+
+-- whether the owner of a record is listed
+abbrev pub counts : Lent → Record → Bool
+counts All r = true
+counts Parts r = is_delegation r.body
+
+-- whether the zone's origin is at the name, or an owner that is listed
+abbrev pub stands_at : Lent → Zone → List (List ℕ) → Bool
+stands_at lent zone name =
+    same_name zone.origin name || list_any (λ r. same_name r.owner name && counts lent r) zone.records

@@ -125,6 +125,11 @@ abbrev pub AreNamesUnder : List Zone → List (List ℕ) → List (List (List �
 AreNamesUnder zones top names =
     (name : List (List ℕ)) → list_any (same_name name) names ≡ (is_lent_at zones name && is_under name top)
 
+-- the names at or below the top at which an origin or a delegation stands, whatever their order
+abbrev pub ArePartsUnder : List Zone → List (List ℕ) → List (List (List ℕ)) → Type 0
+ArePartsUnder zones top names =
+    (name : List (List ℕ)) → list_any (same_name name) names ≡ (is_parted_at zones name && is_under name top)
+
 -- RFC 4592, section 2.1.1: nothing is lent at or below the wildcard (`*` is 42) below the name
 abbrev pub is_starless : List Zone → List (List ℕ) → Bool
 is_starless zones name = is_bare zones ((42 ∷ []) ∷ name)

@@ -14,7 +14,7 @@ pub(crate) fn clashes(target: &Name, body: &Body) -> bool
     match body {
         Body::Cname(other) => target != other,
         Body::Other => false,
-        Body::A(_) | Body::Aaaa(_) | Body::Mx(_, _) | Body::Txt(_) | Body::Ns(_) => true,
+        _ => true,
     }
 }
 

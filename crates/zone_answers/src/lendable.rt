@@ -33,8 +33,7 @@ fn is_body_fit(body: &Body) -> bool
 {
     match body {
         Body::Txt(strings) => are_strings_fit(strings),
-        Body::A(_) | Body::Aaaa(_) | Body::Mx(_, _) | Body::Cname(_) | Body::Ns(_) | Body::Other =>
-            true,
+        _ => true,
     }
 }
 

@@ -9,8 +9,8 @@ ghost use Rattle.zone_answers.specs.Same.{distinct_records, same_name};
 ghost use Rattle.zone_answers.specs.Answers.{bodies_at, closest_above, is_cut_off, is_delegation, is_of, name_exists};
 ghost use Rattle.zone_answers.specs.Answers.{node_of, target_of, has_record};
 ghost use Rattle.zone_answers.specs.Names.{other_len};
-ghost use Rattle.zone_answers.specs.Reversed.{closest_at, lends_at, node_below};
-ghost use Rattle.zone_answers.specs.Index.{body_at, first_of, has_delegation, places_of};
+ghost use Rattle.zone_answers.specs.Reversed.{closest_at, node_below};
+ghost use Rattle.zone_answers.specs.Index.{body_at, counts, stands_at, first_of, has_delegation, places_of};
 ghost use Rattle.zone_answers.specs.Index.{target_in};
 ghost use Rattle.zone_answers.specs.Lend.{AreLendable, IsBodyFit, IsLeastClash, has_clash};
 
@@ -19,12 +19,34 @@ use crate::clash::{clashes, lesser};
 use crate::node::{Chosen, Nodes, index_records, is_delegation};
 use crate::order::{Entry, any_begins, begin_with, key_of, sort_owners};
 use crate::text::other_len;
-use addr_bits::{Items, for_proof};
+use addr_bits::Items;
 use dns_name::Name;
 use indexmap::IndexSet;
 use master_reader::{Body, Record};
 use std::alloc::{AllocError, Global};
 use std::marker::Model;
+
+/// Which owners are listed.
+#[derive(Clone, Copy, PartialEq, Eq)]
+pub(crate) enum Lent {
+    /// Those of all records.
+    All,
+
+    /// Those of NS records.
+    Parts,
+}
+
+impl Lent {
+    /// Whether the owner of the record is listed.
+    fn counts(self, listed: &Record) -> bool
+        ensures { result ≡ counts self listed.now }
+    {
+        match self {
+            Lent::All => true,
+            Lent::Parts => is_delegation(&listed.body),
+        }
+    }
+}
 
 /// A lent zone, which contracts see as its origin and its records, equal ones once, in order.
 #[derive(Drop, Debug)]
@@ -164,7 +186,8 @@ impl LentZone {
             return Ok(Some(name.clone()?));
         }
         // A name has at most 255 octets, so `*` fits in front of each name above it.
-        for_proof(name.label_count());
+        // `label_count` tells the checker that the name is legal.
+        let _labels = name.label_count();
         let Ok(wildcard) = self.closest_above(name).child(b"*") else {
             return Ok(None);
         };
@@ -191,7 +214,8 @@ impl LentZone {
         requires { length (wire_form name.now) ≤ 253 }
         ensures { IfOk result (λ node. node ≡ node_below self.now name.now) }
     {
-        for_proof(name.label_count());
+        // `label_count` tells the checker that the name is legal.
+        let _labels = name.label_count();
         let Ok(wildcard) = self.closest_at(name).child(b"*") else {
             return Ok(None);
         };
@@ -202,16 +226,21 @@ impl LentZone {
         })
     }
 
-    /// Adds the origin and the owners of the records, of those at or below the top.
-    pub(crate) fn push_names(&self, top: &Name, names: &mut Items<Name>) -> Result<(), AllocError>
+    /// Adds the origin and the owners that count, of those at or below the top.
+    pub(crate) fn push_names(
+        &self,
+        lent: Lent,
+        top: &Name,
+        names: &mut Items<Name>,
+    ) -> Result<(), AllocError>
         ensures { OnOk result ((name : List (List ℕ)) → list_any (same_name name) names.new
-            ≡ (list_any (same_name name) names.old || (lends_at self.now name && is_under name top.now))) }
+            ≡ (list_any (same_name name) names.old || (stands_at lent self.now name && is_under name top.now))) }
     {
         push_under(&self.origin, top, names)?;
         let entries = begin_with(self.order.as_slice(), &key_of(top));
         for entry in entries {
             if let Some(listed) = self.records.get_index(entry.place) {
-                names.push(listed.owner.clone()?)?;
+                push_owner(lent, listed, names)?;
             }
         }
         Ok(())
@@ -243,12 +272,7 @@ impl LentZone {
     {
         match self.body(place)? {
             Body::Cname(target) => Some(target),
-            Body::A(_)
-            | Body::Aaaa(_)
-            | Body::Mx(_, _)
-            | Body::Txt(_)
-            | Body::Ns(_)
-            | Body::Other => None,
+            _ => None,
         }
     }
 
@@ -328,6 +352,17 @@ impl LentZone {
         }
         Ok(bodies)
     }
+}
+
+/// Adds the owner of the record, if it counts.
+fn push_owner(lent: Lent, listed: &Record, names: &mut Items<Name>) -> Result<(), AllocError>
+    ensures { OnOk result ((name : List (List ℕ)) → list_any (same_name name) names.new
+        ≡ (list_any (same_name name) names.old || (same_name listed.now.owner name && counts lent listed.now))) }
+{
+    if lent.counts(listed) {
+        names.push(listed.owner.clone()?)?;
+    }
+    Ok(())
 }
 
 /// Whether an NS record is among the records.

@@ -10,16 +10,16 @@ ghost use Rattle.addr_bits.specs.Address.{IsAddress};
 ghost use Rattle.dns_name.specs.Wire.{wire_form};
 ghost use Rattle.zone_answers.specs.declared.answer.QKind.TheVariants.{A};
 ghost use Rattle.zone_answers.specs.Answers.{answer_of, answer_within, at_node, in_zone, zone_of};
-ghost use Rattle.zone_answers.specs.Reversed.{AreNamesUnder, answer_below, below_in_zone, reversed_name};
-ghost use Rattle.zone_answers.specs.Index.{is_deeper, outcome_of};
+ghost use Rattle.zone_answers.specs.Reversed.{AreNamesUnder, ArePartsUnder, answer_below, below_in_zone, reversed_name};
+ghost use Rattle.zone_answers.specs.Index.{is_deeper, outcome_of, stands_at};
 ghost use Rattle.zone_answers.specs.Lend.{AreLendable, AreZones, IsRefused, IsLent, with_zone};
 ghost use Rattle.zone_answers.specs.Names.{has_own_alias, is_taken, other_text_of};
 
 use crate::answer::{Answer, QKind, Step};
 use crate::fault::LendFault;
 use crate::reversed::reversed_name;
-use crate::zone::LentZone;
-use addr_bits::{Address, Items, for_proof};
+use crate::zone::{Lent, LentZone};
+use addr_bits::{Address, Items};
 use dns_name::Name;
 use indexmap::IndexSet;
 use master_reader::{Record, Records};
@@ -124,7 +124,8 @@ impl Zones {
         ensures answer { IfOk result (λ answer. answer ≡ answer_of self.now name.now kind) }
         ensures zones { AreZones self.now }
     {
-        for_proof(&self.zones);
+        // The checker takes from this that the lent zones are as `AreZones` says.
+        let _zones = &self.zones;
         self.answer_within(MAX_ALIASES, name, kind)
     }
 
@@ -219,10 +220,27 @@ impl Zones {
     pub fn names_under(&self, top: &Name) -> Result<Items<Name>, AllocError>
         ensures { IfOk result (AreNamesUnder self.now top.now) }
     {
+        self.lent_under(Lent::All, top)
+    }
+
+    /// The names at or below the top at which a zone has its origin or an NS record its owner (RFC 1034, section 4.2).
+    /// A name may come more than once.
+    pub fn parts_under(&self, top: &Name) -> Result<Items<Name>, AllocError>
+        ensures { IfOk result (ArePartsUnder self.now top.now) }
+    {
+        self.lent_under(Lent::Parts, top)
+    }
+
+    /// The origins at or below the top, and the owners there that count.
+    fn lent_under(&self, lent: Lent, top: &Name) -> Result<Items<Name>, AllocError>
+        ensures { IfOk result (λ names. (name : List (List ℕ))
+            → list_any (same_name name) names
+            ≡ (list_any (λ z. stands_at lent z name) self.now && is_under name top.now)) }
+    {
         let mut names = Items::new(self.alloc);
         let zones = self.zones.as_slice();
         for zone in zones {
-            zone.push_names(top, &mut names)?;
+            zone.push_names(lent, top, &mut names)?;
         }
         Ok(names)
     }

@@ -1,6 +1,5 @@
 -- A text cut into character strings.
-use Rattle.std.proofs.Common.{ℕ, zero, suc, ◌≡◌, ◌+◌, ◌*◌, ◌<◌, ◌≤◌, List, [], ◌∷◌, ◌++◌, length, take, drop, nat_lt, flat_map, Result, Ok, Err, refl, sym, ap, ◌∙◌, arith, append_assoc, append-nil}
-use Rattle.std.specs.Prelude.{OnErr}
+use Rattle.std.proofs.Common.{ℕ, zero, suc, ◌≡◌, ◌+◌, ◌*◌, ◌<◌, ◌≤◌, List, [], ◌∷◌, ◌++◌, length, take, drop, nat_lt, flat_map, refl, sym, ap, ◌∙◌, arith, append_assoc, append-nil}
 use Rattle.std.proofs.lemmas.Bool.{cond-true, cond-false, lt-ltb, le-ltb}
 use Rattle.zone_writer.specs.Fragment.{quoted, strings_of, strings_within}
 
@@ -38,18 +37,3 @@ lacks_less zone whole rest string behind new long s b len w (suc n, bound, e) = 
 pub lacks_none : (zone whole rest new : List ℕ) → length rest ≤ 255 → new ≡ zone ++ quoted rest → Lacks zone whole rest → new ≡ whole
 lacks_none zone whole rest new short w (n, bound, e) =
     w ∙ sym (ap (λ t. zone ++ t) (ap (λ strings. flat_map quoted strings) (last_string n rest short) ∙ append-nil (quoted rest))) ∙ e
-
--- the new zone is the old one with something after it
-abbrev pub Grows : (old new : List ℕ) → Type 0
-Grows old new = (more : List ℕ) × (new ≡ old ++ more)
-
-pub grows_on : (old mid new : List ℕ) → Grows old mid → Grows mid new → Grows old new
-grows_on old mid new (a, e) (b, w) = (a ++ b, w ∙ ap (λ t. t ++ b) e ∙ append_assoc old a b)
-
-pub err_grows : {A E : Type 0} (old mid new : List ℕ) (result : Result A E) → Grows old mid → OnErr result (Grows mid new) → OnErr result (Grows old new)
-err_grows old mid new (Ok a) g h = h
-err_grows old mid new (Err e) g h = grows_on old mid new g h
-
-pub on_err : {A E P : Type 0} (result : Result A E) → P → OnErr result P
-on_err (Ok a) p = tt
-on_err (Err e) p = p

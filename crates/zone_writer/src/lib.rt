@@ -7,4 +7,4 @@ mod zone;
 
 pub use laws::fragment_is_read;
 pub use record::{push_strings, write_terms};
-pub use zone::{fragment, write_chain};
+pub use zone::fragment;

@@ -1,12 +1,12 @@
 //! Writing one record of a chain.
-ghost use Rattle.std.specs.Prelude.{◌≡◌, ◌<◌, ◌++◌, List, ℕ, codes, flat_map, IfOk, OnErr, OnOk};
+ghost use Rattle.std.specs.Prelude.{◌≡◌, ◌<◌, ◌++◌, codes, flat_map, IfOk, OnOk};
 ghost use Rattle.record_pack.specs.Records.{record_name, record_text, terms_text};
 ghost use Rattle.zone_writer.specs.Fragment.{owner_text, quoted, record_line, strings_of};
 
-use addr_bits::{Bytes, taken_back};
+use addr_bits::Bytes;
 use itoa::Buffer;
 use master_reader::MAX_STRING;
-use record_pack::Chain;
+use record_pack::push_name;
 use spf_grammar::{FlatTerm, write_flat};
 use std::alloc::{AllocError, Global};
 
@@ -24,47 +24,51 @@ pub fn write_terms(alloc: Global, terms: &[FlatTerm]) -> Result<Bytes, AllocErro
 }
 
 /// Appends the modifier that sends the reader on to the record of this number, which is not 0.
-fn push_redirect(text: &mut Bytes, chain: &Chain, index: u64) -> Result<(), AllocError>
+fn push_redirect(
+    text: &mut Bytes,
+    domain: &[u8],
+    label: &[u8],
+    index: u64,
+) -> Result<(), AllocError>
     requires { 0 < index }
-    ensures { OnOk result
-        (text.new ≡ text.old ++ (codes " redirect=" ++ record_name chain.now.domain.now chain.now.label.now index)) }
+    ensures { OnOk result (text.new ≡ text.old ++ (codes " redirect=" ++ record_name domain.now label.now index)) }
 {
     text.extend_from_slice(b" redirect=")?;
-    chain.push_name(text, index)
+    push_name(text, domain, label, index)
 }
 
 /// The text of a record.
 fn write_text(
     alloc: Global,
     terms: &[FlatTerm],
-    chain: &Chain,
+    domain: &[u8],
+    label: &[u8],
     index: u64,
     last: bool,
 ) -> Result<Bytes, AllocError>
     requires { index < 11 }
-    ensures { IfOk result (λ text. text ≡ record_text chain.now.domain.now chain.now.label.now terms.now index last) }
+    ensures { IfOk result (λ text. text ≡ record_text domain.now label.now terms.now index last) }
 {
     let mut text = write_terms(alloc, terms)?;
     if !last {
-        push_redirect(&mut text, chain, index + 1)?;
+        push_redirect(&mut text, domain, label, index + 1)?;
     }
     Ok(text)
 }
 
-/// Appends a space and a character string between quotes, or the first octets of these.
+/// Appends a character string between quotes, behind a space.
 fn push_string(zone: &mut Bytes, string: &[u8]) -> Result<(), AllocError>
-    ensures ok { OnOk result (zone.new ≡ zone.old ++ quoted string.now) }
-    ensures err { OnErr result ((more : List ℕ) × (zone.new ≡ zone.old ++ more)) }
+    ensures { OnOk result (zone.new ≡ zone.old ++ quoted string.now) }
 {
     zone.extend_from_slice(b" \"")?;
     zone.extend_from_slice(string)?;
     zone.push(b'"')
 }
 
-/// Appends the character strings of a text, or the first octets of these.
-fn push_all(zone: &mut Bytes, text: &[u8]) -> Result<(), AllocError>
-    ensures ok { OnOk result (zone.new ≡ zone.old ++ flat_map quoted (strings_of text.now)) }
-    ensures err { OnErr result ((more : List ℕ) × (zone.new ≡ zone.old ++ more)) }
+/// Appends a text as character strings (RFC 1035, section 3.3.14), each between quotes and behind a space: of 255
+/// octets each, the last of which may be shorter.
+pub fn push_strings(zone: &mut Bytes, text: &[u8]) -> Result<(), AllocError>
+    ensures { OnOk result (zone.new ≡ zone.old ++ flat_map quoted (strings_of text.now)) }
 {
     let mut rest = text;
     while rest.len() > MAX_STRING {
@@ -73,17 +77,6 @@ fn push_all(zone: &mut Bytes, text: &[u8]) -> Result<(), AllocError>
         rest = behind;
     }
     push_string(zone, rest)
-}
-
-/// Appends a text as character strings (RFC 1035, section 3.3.14), each between quotes and after a space: of 255 octets
-/// each, the last of which may be shorter. Where there is no memory, the zone stays as it was.
-pub fn push_strings(zone: &mut Bytes, text: &[u8]) -> Result<(), AllocError>
-    ensures ok { OnOk result (zone.new ≡ zone.old ++ flat_map quoted (strings_of text.now)) }
-    ensures err { OnErr result (zone.new ≡ zone.old) }
-{
-    let len = zone.len();
-    let pushed = push_all(zone, text);
-    taken_back(zone, len, pushed)
 }
 
 /// Appends the owner of a record.
@@ -102,16 +95,17 @@ pub(crate) fn push_record(
     alloc: Global,
     zone: &mut Bytes,
     terms: &[FlatTerm],
-    chain: &Chain,
+    domain: &[u8],
+    label: &[u8],
     index: u64,
     last: bool,
 ) -> Result<(), AllocError>
     requires { index < 11 }
-    ensures { OnOk result (zone.new ≡ zone.old ++ record_line (owner_text chain.now.label.now index)
-        (record_text chain.now.domain.now chain.now.label.now terms.now index last)) }
+    ensures { OnOk result (zone.new ≡ zone.old ++ record_line (owner_text label.now index)
+        (record_text domain.now label.now terms.now index last)) }
 {
-    let text = write_text(alloc, terms, chain, index, last)?;
-    push_owner(zone, chain.label, index)?;
+    let text = write_text(alloc, terms, domain, label, index, last)?;
+    push_owner(zone, label, index)?;
     zone.extend_from_slice(b" IN TXT")?;
     push_strings(zone, text.as_slice())?;
     zone.push(b'\n')

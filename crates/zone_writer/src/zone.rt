@@ -8,7 +8,7 @@ use addr_bits::Bytes;
 use bound_table::append_table;
 use fewest_terms::Shortest;
 use itoa::Buffer;
-use record_pack::{Chain, Cut};
+use record_pack::Cut;
 use spf_grammar::FlatTerm;
 use std::alloc::{AllocError, Global};
 
@@ -31,46 +31,32 @@ fn push_records(
     zone: &mut Bytes,
     list: &[FlatTerm],
     ends: &[usize],
-    chain: &Chain,
+    domain: &[u8],
+    label: &[u8],
 ) -> Result<(), AllocError>
     requires { IsCut (length list.now) ends.now }
-    ensures { OnOk result (zone.new ≡ zone.old ++ record_lines chain.now.domain.now chain.now.label.now 0
+    ensures { OnOk result (zone.new ≡ zone.old ++ record_lines domain.now label.now 0
         (pieces_from list.now 0 ends.now)) }
 {
     let mut from = 0;
     for (index, end) in ends.iter().enumerate() {
         let last = index + 1 == ends.len();
-        push_record(alloc, zone, &list[from..*end], chain, index as u64, last)?;
+        push_record(
+            alloc,
+            zone,
+            &list[from..*end],
+            domain,
+            label,
+            index as u64,
+            last,
+        )?;
         from = *end;
     }
     Ok(())
 }
 
 /// The fragment: the records of a cut of the list as a master file (RFC 1035, section 5.1) with this TTL, in seconds,
-/// and the lines of the table. The records are written as the cut has them, whatever they take.
-pub fn write_chain(
-    alloc: Global,
-    found: &Shortest,
-    cut: &Cut,
-    chain: &Chain,
-    ttl: u32,
-) -> Result<Bytes, AllocError>
-    requires { IsCut (length found.now.list) cut.now.ends }
-    ensures { IfOk result (λ zone. zone ≡ fragment_text chain.now.domain.now chain.now.label.now ttl
-        found.now.list cut.now.ends found.now.rows4 found.now.rows6 found.now.total) }
-{
-    let mut zone = write_head(alloc, chain.domain, ttl)?;
-    push_records(
-        alloc,
-        &mut zone,
-        found.list.as_slice(),
-        cut.ends.as_slice(),
-        chain,
-    )?;
-    append_table(zone, &found.rows4, &found.rows6, found.total)
-}
-
-/// `write_chain` for a chain at this domain with this label.
+/// and the lines of the table.
 pub fn fragment(
     alloc: Global,
     found: &Shortest,
@@ -83,11 +69,14 @@ pub fn fragment(
     ensures { IfOk result (λ zone. zone ≡ fragment_text domain.now label.now ttl found.now.list cut.now.ends
         found.now.rows4 found.now.rows6 found.now.total) }
 {
-    let chain = Chain {
+    let mut zone = write_head(alloc, domain, ttl)?;
+    push_records(
+        alloc,
+        &mut zone,
+        found.list.as_slice(),
+        cut.ends.as_slice(),
         domain,
         label,
-        size: u32::MAX,
-        others: 0,
-    };
-    write_chain(alloc, found, cut, &chain, ttl)
+    )?;
+    append_table(zone, &found.rows4, &found.rows6, found.total)
 }

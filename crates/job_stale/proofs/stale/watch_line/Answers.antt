@@ -4,7 +4,7 @@ use Rattle.zone_answers.specs.Questions.{question_text}
 use Rattle.kept_lists.specs.declared.kept.KeptLine.{KeptLine}
 use Rattle.deps_watch.specs.Freshness.{IsFirstStale}
 use Rattle.deps_watch.proofs.Agreeing.{if_ok}
-use Rattle.refusals.specs.Lines.{line_of}
+use Rattle.loading.specs.Lines.{line_of}
 use Rattle.job_stale.specs.Meaning.{stale}
 use Rattle.job_stale.proofs.Naming.{named}
 use Rattle.job_stale.proofs.stale.watch_line.Goals as goal

@@ -1,6 +1,6 @@
 use Rattle.std.proofs.Common.{refl, ap, ◌∙◌}
 use Rattle.spfc_words.specs.Words.{texts}
-use Rattle.refusals.specs.Lines.{read_fault_line}
+use Rattle.loading.specs.Lines.{read_fault_line}
 use Rattle.jobs.specs.Meaning.{Program, program, Refuses}
 use Rattle.jobs.specs.Given.{Given, finding, fault}
 use Rattle.jobs.proofs.AnswerLemmas.{err_ok, ok_is, said, file_refused, job_given}

@@ -1,6 +1,5 @@
 use Rattle.std.proofs.Common.{rules, subst, sym, IsTrue}
-use Rattle.addr_bits.proofs.Errors.{error_also}
-use Rattle.loading.proofs.StopLemmas.{keeps_both}
+use Rattle.loading.proofs.StopLemmas.{error_also, keeps_both}
 use Rattle.loading.proofs.InputsLemmas.{loaded_at, stops_at}
 use Rattle.loading.proofs.inputs.load_inputs.Goals as goal
 

@@ -1,7 +1,6 @@
 use Rattle.std.proofs.Common.{rules, refl, Ok, Err}
 use Rattle.loading.specs.Loading.{InputDue}
-use Rattle.addr_bits.proofs.Errors.{done_also, error_also, result_also}
-use Rattle.loading.proofs.StopLemmas.{stops_also}
+use Rattle.loading.proofs.StopLemmas.{done_also, error_also, result_also, stops_also}
 use Rattle.loading.proofs.inputs.read_input.Goals as goal
 
 pub returns-in-Zone-clause-done : goal.returns-in-Zone-clause-done

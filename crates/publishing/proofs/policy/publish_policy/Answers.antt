@@ -1,5 +1,5 @@
 use Rattle.std.proofs.Common.{rules, subst, sym}
-use Rattle.addr_bits.proofs.Errors.{error_also}
+use Rattle.loading.proofs.StopLemmas.{error_also}
 use Rattle.publishing.proofs.PublicationLemmas.{policy_refused, policy_stopped}
 use Rattle.publishing.specs.Policy.{kept}
 use Rattle.publishing.proofs.policy.publish_policy.Goals as goal

@@ -1,6 +1,6 @@
 use Rattle.std.proofs.Common.{Err, sym}
 use Rattle.fewest_terms.specs.Leaves.{verdict_at as trie_verdict}
-use Rattle.addr_bits.proofs.Errors.{result_also}
+use Rattle.loading.proofs.StopLemmas.{result_also}
 use Rattle.publishing.proofs.PublicationLemmas.{list_due, list_written}
 use Rattle.publishing.proofs.publication.publish.Goals as goal
 

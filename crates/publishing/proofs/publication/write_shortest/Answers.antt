@@ -1,5 +1,5 @@
 use Rattle.std.proofs.Common.{Ok, ap, rules}
-use Rattle.addr_bits.proofs.Errors.{error_also}
+use Rattle.loading.proofs.StopLemmas.{error_also}
 use Rattle.publishing.specs.Published.{written}
 use Rattle.publishing.proofs.PublicationLemmas.{taken_due}
 use Rattle.publishing.proofs.publication.write_shortest.Goals as goal

@@ -7,4 +7,4 @@ use Rattle.zone_writer.proofs.zone.push_records.Given as goal
 -- the records of the ends that are left are what is missing
 abbrev pub invariant-loop-index : goal.invariant-loop-index
 invariant-loop-index l =
-    Lacks l.chain.domain.now l.chain.label.now l.list l.ends (l.initial.zone ++ record_lines l.chain.domain.now l.chain.label.now 0 (pieces_from l.list 0 l.ends)) l.from l.index l.zone
+    Lacks l.domain l.label l.list l.ends (l.initial.zone ++ record_lines l.domain l.label 0 (pieces_from l.list 0 l.ends)) l.from l.index l.zone

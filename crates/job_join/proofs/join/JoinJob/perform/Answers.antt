@@ -1,5 +1,5 @@
 use Rattle.std.proofs.Common.{rules}
-use Rattle.addr_bits.proofs.Errors.{error_also}
+use Rattle.loading.proofs.StopLemmas.{error_also}
 use Rattle.job_join.proofs.Tries.{fault_due, join_refused, join_written}
 use Rattle.job_join.proofs.join.JoinJob.perform.Goals as goal
 

@@ -1,5 +1,5 @@
 use Rattle.std.proofs.Common.{ℕ, List, refl, ap, ◌∙◌}
-use Rattle.refusals.specs.declared.refusal.Refusal.TheVariants.{BadList}
+use Rattle.loading.specs.declared.refusal.Refusal.TheVariants.{BadList}
 use Rattle.jobs.specs.Meaning.{Refuses}
 use Rattle.job_stale.specs.Meaning.{said, unlisted}
 use Rattle.job_stale.proofs.Unread.{unread}

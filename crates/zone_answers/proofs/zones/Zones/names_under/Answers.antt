@@ -1,10 +1,16 @@
-use Rattle.std.proofs.Common.{◌∙◌, arith}
-use Rattle.zone_answers.proofs.Listing.{zone_more, zones_all}
+use Rattle.std.proofs.Common.{◌≡◌, ℕ, List, ◌&&◌}
+use Rattle.std.specs.List.{list_any}
+use Rattle.std.proofs.lemmas.Result.{IfOk-weaker}
+use Rattle.dns_name.specs.Name.{is_under}
+use Rattle.zone_answers.specs.declared.zone.Lent.TheVariants.{All}
+use Rattle.zone_answers.specs.Same.{same_name}
+use Rattle.zone_answers.specs.Index.{stands_at}
+use Rattle.zone_answers.specs.Reversed.{AreNamesUnder}
+use Rattle.zone_answers.proofs.Listing.{all_listed}
 use Rattle.zone_answers.proofs.zones.Zones.names_under.Goals as goal
 
-pub loop-zone-preserved : goal.loop-zone-preserved
-loop-zone-preserved c = zone_more c.args.top.now c.as_slice-zones.result.now c.loop-zone.zone-index c.zone-item.result c.loop-zone.names c.push_names.new.names
-    (omega arith) c.zone-item.is c.loop-zone.invariant c.in_ok-push_names.ensures
-
 pub returns : goal.returns
-returns c = zones_all c.args.top.now c.as_slice-zones.result.now c.args.self.now c.loop-zone.zone-index c.loop-zone.names (omega arith) (c.as_slice-zones.ensures.value ∙ c.self.view_is) c.loop-zone.invariant
+returns c = IfOk-weaker c.lent_under.result
+    (λ names. (name : List (List ℕ)) → list_any (same_name name) names ≡ (list_any (λ z. stands_at All z name) c.args.self.now && is_under name c.args.top.now))
+    (AreNamesUnder c.args.self.now c.args.top.now)
+    (λ names h. all_listed c.args.self.now c.args.top.now names h) c.lent_under.ensures
