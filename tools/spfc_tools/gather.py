@@ -90,7 +90,7 @@ def gather(request: Request, program: Program, arguments: argparse.Namespace) ->
 
 
 def _run(words: Sequence[str]) -> int:
-    """Gathers, or says whether a file holds what is asked, and gives the status."""
+    """Gathers, or says whether a file answers every question, and returns the exit status."""
     parser = _parser()
     arguments = command_line.parse(parser, words)
     if not arguments.domains:

@@ -49,7 +49,7 @@ NEEDED_NAMES = 10
 
 @dataclass(frozen=True)
 class Request:
-    """What is gathered: the policies of domains under some reading options, and whether their chains' names are free.
+    """What to gather: the policies of domains under some reading options, and whether their chains' names are free.
 
     A `policy` is read in place of the record of the one domain. The `zones` name zones that are read
     together with the file, and of which DNS is asked nothing.
@@ -122,7 +122,7 @@ class Gathering:
         raise Ending(Status.CONTRADICTION, f"no end after {_MOST_ROUNDS} rounds")
 
     def _last_world(self, questions: list[Question], number: int) -> Gathered:
-        """The world of what is asked alone. Whatever else was answered changes nothing in it."""
+        """The world of these questions alone. Other answers change nothing in it."""
         world = self._world(questions)
         if failures := list(world.failures()):
             raise Ending(Status.NO_ANSWER, *self._shown_failures(failures))
@@ -142,7 +142,7 @@ class Gathering:
 
     def _asked(self, world: World, number: int) -> list[Question]:
         """What spfc asks over a world."""
-        self._progress.tell(f"round {number}: what is asked")
+        self._progress.tell(f"round {number}: asking spfc")
         request, zone = self._request, world.zone()
         asked_by = (self._program.questions(one, request.reading, zone, request.zones) for one in request.domains)
         lines = list(dict.fromkeys(itertools.chain.from_iterable(asked_by)))
@@ -188,14 +188,14 @@ class Gathering:
                     self._facts.learn(found, answer)
 
     def _missing(self, questions: list[Question]) -> list[Question]:
-        """The questions that are to be asked next, each once."""
+        """The questions to ask next, each once."""
         lists = (listed.questions for question in questions if (listed := self._facts.listed(question)))
         wanted = [*questions, *itertools.chain.from_iterable(lists), *self._expected(questions), *self._probes()]
         missing = (self._facts.missing(question) for question in wanted)
         return list(dict.fromkeys(question for question in missing if question is not None))
 
     def _expected(self, questions: list[Question]) -> Iterator[Question]:
-        """What is asked of the exchanges of a name, which need not wait for a round each."""
+        """The questions about the exchanges of a name, which need not wait for a round each."""
         for question in questions:
             if question.kind is Kind.MX:
                 answer = self._facts.answer(self._facts.chain(question).end)
@@ -204,10 +204,10 @@ class Gathering:
                 if len(exchanges) <= self._request.exchanges + 1:
                     yield from (Question(name, kind) for name in exchanges for kind in (Kind.A, Kind.AAAA))
 
-    # ------------------------------------------------------------- names that must not stand by themselves
+    # ------------------------------------------------------------- names that must not have records themselves
 
     def _probes(self) -> Iterator[Question]:
-        """What tells whether each domain stands there by itself, and whether the names of the chain are free."""
+        """Questions that tell whether each domain has records itself, and whether the names of the chain are free."""
         for text in self._texts:
             if self._facts.exists(text):
                 yield from self._probe(text.name)
@@ -224,7 +224,7 @@ class Gathering:
                 yield from (Question(name, Kind.TXT), Question(probe, Kind.TXT))
 
     def _is_of_wildcard(self, name: Name) -> bool:
-        """Whether a wildcard answers for the name: below one that stands there by itself none from above is seen."""
+        """Whether a wildcard answers for the name: below a name that exists no wildcard from above is seen."""
         probe = _probe_name(name)
         if probe is None or any(self._is_of_dname(Question(name, kind)) for kind in Kind):
             return False
@@ -236,7 +236,7 @@ class Gathering:
         return isinstance(answer, Alias) and answer.is_made
 
     def _floating(self) -> Iterator[Name]:
-        """The domains and the names of the chains, where they do not stand there by themselves."""
+        """The domains and the names of the chains, if they have no records themselves."""
         for text in self._texts:
             has_more = self._facts.exists(text) and self._has_more_than_nothing(self._facts.chain(text))
             if has_more and self._is_of_wildcard(text.name):
@@ -271,6 +271,6 @@ class Gathering:
 
 
 def _probe_name(name: Name) -> Name | None:
-    """A name that has an answer only where neither the name nor the wildcard below it stands there (RFC 4592)."""
+    """A name that has an answer only where neither the name nor the wildcard below it exists (RFC 4592)."""
     wildcard = names.child(names.WILDCARD, name)
     return None if wildcard is None else names.child(_PROBE, wildcard)

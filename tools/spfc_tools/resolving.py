@@ -68,7 +68,7 @@ class Resolver:
     _stopped: Event = field(default_factory=Event)
 
     def ask_all(self, questions: Iterable[Question], tell: Callable[[int, Question], None]) -> Learned:
-        """Asks all, some at a time, and gives what was learned in the order of the questions."""
+        """Asks all, some at a time, and returns the answers in the order of the questions."""
         learned: Learned = []
         pool = ThreadPoolExecutor(self.at_once)
         try:

@@ -56,7 +56,7 @@ def _options(names: tuple[str, ...]) -> Iterator[str]:
 
 
 def version() -> str:
-    """The version, the kit with which the program was proved, and what is proved."""
+    """The version, the kit that proved the program, and the promise that it proved."""
     kit = data_file("KIT")
     line = kit.read_text().strip() if kit else kit_line()
     return f"spfc {version_number()}, proved with {line}\n{_PROVED}\n"

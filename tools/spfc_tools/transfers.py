@@ -46,7 +46,7 @@ class Contents:
 
 
 def contents(zone: dns.zone.Zone, origin: Name) -> Contents:
-    """What stands in the zone."""
+    """The contents of the zone."""
     nodes = {name.canonicalize(): node for name, node in zone.nodes.items() if name.is_subdomain(origin)}
     return Contents(
         origin,
@@ -80,7 +80,7 @@ def _has(node: Node, kind: str) -> bool:
 
 
 class _BoundedZone(dns.zone.Zone):
-    """A zone that a transfer fills with so many records at most that they fit into memory."""
+    """A zone that takes a bounded number of records from a transfer, so that they fit into memory."""
 
     def writer(self, replacement: bool = False) -> dns.zone.Transaction:
         """The transaction of a transfer, which counts the records."""
@@ -100,7 +100,7 @@ class _TooLargeError(Exception):
 
 
 class NotGiven(Exception):
-    """What stands in a zone cannot be had from its servers: a person has to give its file."""
+    """The servers of a zone do not give its contents: a person has to give its file."""
 
     def __init__(self, origin: Name, why: str) -> None:
         super().__init__(f"{why}; give the zone as a file: {names.printed(origin)}=FILE")

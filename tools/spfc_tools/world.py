@@ -34,13 +34,13 @@ OUT = names.read("not-gathered.invalid")
 def closing(owners: Iterable[Name], whole: Collection[Name] = ()) -> Iterator[Record]:
     """Records for a zone of the root with records at these names.
 
-    A name that stands there for those below it alone is an alias that leads out. So is a wildcard below each name,
+    A name without records, above one that has some, is an alias that leads out. So is a wildcard below each name,
     which answers for all names that are not there. Of the names that are `whole` all that lies below is there.
     """
-    standing = {owner for owner in owners if not is_below(owner, whole)} | {OUT}
-    existing = {upper for owner in standing.union(whole) for upper in names.with_ancestors(owner)}
+    owned = {owner for owner in owners if not is_below(owner, whole)} | {OUT}
+    existing = {upper for owner in owned.union(whole) for upper in names.with_ancestors(owner)}
     existing = {name for name in existing if not is_below(name, whole)}
-    for name in existing - standing:
+    for name in existing - owned:
         yield _leading_out(name)
     for name in existing.difference(whole, {OUT}):
         wildcard = names.child(names.WILDCARD, name)
@@ -61,13 +61,13 @@ def _leading_out(name: Name) -> Record:
 class World:
     """The records that answer some questions as the facts do.
 
-    - A step of an alias is a CNAME record of its own. Where a name is an alias for some kinds alone, or leads to
-      different names, no CNAME record could stand there: what the aliases lead to is written at the name.
-    - A name that has nothing of what was asked, or does not exist, has a marker, so that it is void.
-    - A list of senders by address has all its names, and no other name below its own is written, whoever asks for it:
+    - Each step of an alias is a CNAME record. If a name is an alias for some types alone, or leads to different
+      names, it cannot have a CNAME record: what the aliases lead to is written at the name.
+    - A name without the data that was asked, or that does not exist, has a marker, so that it is void.
+    - A list of senders by address has all its names, and no other name below its own is written, even if it is asked:
       there the list itself says what does not exist, and what a wildcard answers is written at the wildcard.
-    - A name that must not stand by itself (`floating`: it does not exist, or a wildcard answers for it, and whether it
-      stands there matters) is written as the wildcard below the name above it, as are all names below it.
+    - A name that must not have records itself (`floating`: it does not exist, or a wildcard answers for it, and this
+      matters) is written as the wildcard below the name above it, as are all names below it.
     """
 
     def __init__(self, facts: Facts, questions: Iterable[Question], floating: Iterable[Name]) -> None:
@@ -104,7 +104,7 @@ class World:
         return records
 
     def zone(self) -> str:
-        """The records as a master file of the root, and behind them those that close the world."""
+        """The records as a master file of the root, and after them those that close the world."""
         records = self.records()
         closed = closing({record.owner for record in records}, self._whole)
         lines = [*sorted(map(str, records)), "; What was not asked leads out of this file:", *sorted(map(str, closed))]
