@@ -308,8 +308,7 @@ def _parser() -> Parser:
 def _parsed(words: Sequence[str]) -> argparse.Namespace:
     parser = _parser()
     arguments = command_line.parse(parser, _joined(words))
-    fragments = [word for word in arguments.zones if "=" not in word]
-    arguments.zones = tuple(word for word in arguments.zones if "=" in word)
+    fragments = arguments.domains
     if len(fragments) > 1:
         parser.error(f"expected one FRAGMENT, got {' '.join(fragments)}")
     arguments.fragment = Path(fragments[0]) if fragments else None
